@@ -1,0 +1,5 @@
+pub mod Eight
+pub mod Answered
+mod Orders
+mod Turns
+mod Proportions
