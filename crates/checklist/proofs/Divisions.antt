@@ -6,11 +6,10 @@ use native.Mathlib.Omega.{arith}
 use lib.ListN.{length, getD}
 use Rattle.std.specs.declared.result.Result.the-variants.{Ok}
 use Rattle.std.proofs.shelf.Tests.{cond-false}
-use Rattle.sharing.specs.Lists.{total, made}
+use Rattle.sharing.specs.Lists.{total}
 use Rattle.sharing.proofs.Made.{made-from, total-left}
 use Rattle.rules.specs.Division.{Meaning, Lawful, undividable, divided}
 use Rattle.rules.proofs.Answered.{answer-is, answer-fair, needs-within}
-use Rattle.checklist.specs.declared.division.Division.{Division}
 use Rattle.checklist.specs.Dividing.{calls, division-of, outcome}
 
 -- the calls are what the shares leave of the needs

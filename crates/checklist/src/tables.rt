@@ -3,7 +3,11 @@ use super::division::Division;
 use std::io;
 
 // The needs, shares and calls of the seats in zloty, with their sums.
-pub fn print_division(rt: &LibcRuntime, needs: &[u64; 8], division: &Division) -> io::Result<()> {
+pub(crate) fn print_division(
+    rt: &LibcRuntime,
+    needs: &[u64; 8],
+    division: &Division,
+) -> io::Result<()> {
     println!(rt, "  seat        need       share        call")?;
     for k in 0..8 {
         let seat = k + 1;
@@ -20,7 +24,7 @@ pub fn print_division(rt: &LibcRuntime, needs: &[u64; 8], division: &Division) -
 }
 
 // The order in which the seats take their turns.
-pub fn print_order(rt: &LibcRuntime, seats: &[u8; 8]) -> io::Result<()> {
+pub(crate) fn print_order(rt: &LibcRuntime, seats: &[u8; 8]) -> io::Result<()> {
     print!(rt, "By the sequence")?;
     for seat in seats {
         print!(rt, " {seat}")?;

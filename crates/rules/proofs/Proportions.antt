@@ -2,9 +2,9 @@
 use mathlib.Core.Path.{_≡_, refl, sym, ap, _∙_}
 use mathlib.Core.Bool.{false}
 use mathlib.Core.List.{List, [], _∷_, map}
-use Prim.Native.Nat.{ℕ, _+_, _*_, _≤_, _<_}
+use Prim.Native.Nat.{ℕ, _+_}
 use native.Mathlib.Omega.{arith}
-use lib.ListN.{length, getD}
+use lib.ListN.{length}
 use Rattle.std.specs.declared.result.Result.the-variants.{Ok, Err}
 use Rattle.std.proofs.shelf.Lists.{length-map}
 use Rattle.std.proofs.shelf.Tests.{cond-false}
@@ -15,7 +15,7 @@ use Rattle.sharing.specs.Lists.{total, repeated}
 use Rattle.sharing.specs.Sharing.{shares, unshareable, each-given}
 use Rattle.sharing.proofs.Shares.{length-shares, shares-told}
 use Rattle.sharing.proofs.Laws.{nothing-lost, capped}
-use Rattle.rules.specs.Division.{Fair, Lawful, undividable, divided}
+use Rattle.rules.specs.Division.{Lawful, undividable, divided}
 use Rattle.rules.specs.Proportions.{in-proportion, claims-from, with-share, claims-shared}
 use Rattle.rules.proofs.Eight.{eight}
 

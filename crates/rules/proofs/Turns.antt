@@ -1,6 +1,6 @@
 -- The shares of seats that take their turns.
-use mathlib.Core.Path.{_≡_, refl, sym, ap, subst, _∙_}
-use mathlib.Core.Bool.{true, false, cond}
+use mathlib.Core.Path.{_≡_, refl, sym, ap, _∙_}
+use mathlib.Core.Bool.{true, cond}
 use mathlib.Core.Logic.{_≢_, ⊎-elim}
 use mathlib.Core.List.{List, [], _∷_, map}
 use Prim.Native.Nat.{ℕ, zero, suc, _+_, _-_, min, _≤_, _<_}
@@ -9,12 +9,12 @@ use native.Mathlib.Numerals.{add-one}
 use lib.Dec.{eqb}
 use lib.ListN.{length, getD, drop, set}
 use Rattle.std.proofs.shelf.Lists.{at-drop-more, at-drop-all, getD-set-same, getD-set-other, getD-past, length-set, ext-getD}
-use Rattle.std.proofs.shelf.Tests.{cases-eq, cases-lt, cond-both, eqb-true, eqb-false}
+use Rattle.std.proofs.shelf.Tests.{cases-eq, cases-lt, cond-both, eqb-true}
 use Rattle.std.proofs.shelf.Ways.{tells}
 use Rattle.sharing.specs.Lists.{total, made}
 use Rattle.sharing.proofs.Made.{length-made, getD-made, made-from}
-use Rattle.rules.specs.Division.{Fair, Lawful}
-use Rattle.rules.specs.Sequences.{eight-seats, times, full-order, need-of, in-turn, by-sequence}
+use Rattle.rules.specs.Division.{Lawful}
+use Rattle.rules.specs.Sequences.{times, full-order, need-of, in-turn, by-sequence}
 use Rattle.rules.proofs.Orders.{times-more, length-order, order-once, order-at, order-apart}
 
 need-at : (needs : List ℕ) (k : ℕ) → need-of needs (k + 1) ≡ getD needs k 0

@@ -13,16 +13,16 @@ use Rattle.sharing.specs.Sharing.{shares, unshareable, each-given}
 abbrev pub in-proportion : List ℕ → ℕ → List ℕ
 in-proportion needs amount = shares needs amount
 
--- the needs as claims of the seats from this one on, with nothing shared yet
+-- On the way to the answer: the needs as claims of the seats from this one on, with nothing shared yet,
 abbrev pub claims-from : ℕ → List ℕ → List Need
 claims-from seat [] = []
 claims-from seat (n ∷ needs) = record { seat = seat; zloty = n; share = 0 } ∷ claims-from (seat + 1) needs
 
--- a need with another share
+-- a need with this share in the place of its own,
 abbrev pub with-share : Need → ℕ → Need
 with-share need n = record { seat = need .seat; zloty = need .zloty; share = n }
 
--- the claims with their shares of the amount
+-- and the claims with their shares of the amount, unless it cannot be shared
 abbrev pub claims-shared : List Need → ℕ → Result (List Need) Refusal
 claims-shared claims amount =
     cond (unshareable (map (λ c. c .seat) claims) (map (λ c. c .zloty) claims) amount) (Err CannotShare)

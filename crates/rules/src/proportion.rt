@@ -10,6 +10,7 @@ use sharing::need::NeedOwned;
 use sharing::refusal::Refusal;
 use sharing::sharing::share_out;
 
+// The rule in proportion: there is nothing to set.
 #[derive(Clone, Copy)]
 pub struct Proportion;
 

@@ -47,11 +47,11 @@ fn is_full_order(seats: &[u8]) -> bool
     seats.len() == 8 && each_named_once(&[1, 2, 3, 4, 5, 6, 7, 8], seats)
 }
 
-// What a seat gets in its turn.
+// What a seat gets in its turn: the smaller of its need and what is left.
 fn smaller(need: u64, left: u64) -> u64
     ensures { λ r. ⌜ r ≡ min need left ⌝ }
 {
-    if need < left { need } else { left }
+    need.min(left)
 }
 
 // The shares by seat, where the seats take their turns in this order.

@@ -10,7 +10,7 @@ use lib.ListN.{length, getD, take}
 use Rattle.std.proofs.shelf.Lists.{take-all}
 use Rattle.std.proofs.shelf.Tests.{cases-lt, cases-bool, cond-true, cond-false}
 use Rattle.std.proofs.shelf.Ways.{tells}
-use Rattle.std.specs.declared.result.Result.the-variants.{Ok, Err}
+use Rattle.std.specs.declared.result.Result.the-variants.{Ok}
 use Rattle.sharing.specs.Lists.{total}
 use Rattle.sharing.specs.Sharing.{portion, shares, unshareable, weighed, shared}
 use Rattle.sharing.specs.Theorems.{Nothing-lost, None-below-zero, Capped, Fair-shares}

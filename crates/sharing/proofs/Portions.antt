@@ -1,11 +1,13 @@
 -- A portion is c × amount / w; it does not fall as c grows, and stays within the amount.
-use mathlib.Core.Path.{_≡_, sym, ap, _∙_}
+use mathlib.Core.Path.{_≡_, refl, sym, ap, _∙_}
+use mathlib.Core.Bool.{cond}
 use mathlib.Core.Logic.{⊎-elim}
 use Prim.Native.Nat.{ℕ, _+_, _-_, _*_, _/_, _%_, _<_, _≤_}
 use native.Mathlib.Omega.{arith}
 use native.Mathlib.Nat.{div-zero, zero-div, zero-mul, mul-zero, mul-comm, mul-assoc, mul-add, add-mul, div-add-mod', div-mul-le-self, mul-add-div-right, add-mul-div-right, mul-le-mul-right, mul-le-mul-left, mul-div-right}
+use lib.Dec.{eqb}
 use Rattle.std.proofs.shelf.Bits.{le-div}
-use Rattle.std.proofs.shelf.Tests.{cases-lt}
+use Rattle.std.proofs.shelf.Tests.{cases-lt, cond-both, eqb-true}
 use Rattle.sharing.specs.Sharing.{portion}
 
 pub portion-is : (a w c : ℕ) → 0 < w → portion a w c ≡ c * a / w
@@ -20,6 +22,13 @@ portion-none a c = let p = ap (λ n. c * n) (div-zero a) ∙ mul-zero c in let q
 -- what weighs nothing has nothing
 pub portion-zero : (a w : ℕ) → portion a w 0 ≡ 0
 portion-zero a w = let p = zero-mul (a / w) in let q = ap (λ n. n / w) (zero-mul (a % w)) ∙ zero-div w in omega arith
+
+-- the portion of the first claims, plainly nothing where they weigh nothing
+abbrev pub so-far : ℕ → ℕ → ℕ → ℕ
+so-far a w c = cond (eqb c 0) 0 (portion a w c)
+
+pub so-far-is : (a w c : ℕ) → so-far a w c ≡ portion a w c
+so-far-is a w c = cond-both (eqb c 0) 0 (portion a w c) (λ n. n ≡ portion a w c) (λ e. sym (ap (portion a w) (eqb-true c 0 e) ∙ portion-zero a w)) (λ e. refl)
 
 div-mono : (k x y : ℕ) → 0 < k → x ≤ y → x / k ≤ y / k
 div-mono k x y some le = le-div (x / k) y k some (omega (arith, div-mul-le-self x k))

@@ -24,11 +24,16 @@ module _ {X : Type 0} (xs : List X) (i : ℕ) (x : X) (within : i < length xs) (
   repeated-read f = at-read (λ ys. repeated (map f ys))
 
   -- what is done before i, and what F makes of the rest: y is written at i
-  pub made-more : (F G : List X → List X) (y : X) (whole : List X) → ((ys : List X) → F (x ∷ ys) ≡ y ∷ G ys)
-      → take i xs ++ F (drop i xs) ≡ whole → take (i + 1) (set xs i y) ++ G (drop (i + 1) (set xs i y)) ≡ whole
-  made-more F G y whole step done =
-      ap (λ ys. ys ++ G (drop (i + 1) (set xs i y))) (take-more-set xs i y within)
+  pub made-more : (F G : List X → List X) (y : X) (zs whole : List X) → zs ≡ set xs i y → ((ys : List X) → F (x ∷ ys) ≡ y ∷ G ys)
+      → take i xs ++ F (drop i xs) ≡ whole → take (i + 1) zs ++ G (drop (i + 1) zs) ≡ whole
+  made-more F G y zs whole written step done =
+      ap (λ ys. take (i + 1) ys ++ G (drop (i + 1) ys)) written
+      ∙ ap (λ ys. ys ++ G (drop (i + 1) (set xs i y))) (take-more-set xs i y within)
       ∙ ap (λ ys. (take i xs ++ y ∷ []) ++ G ys) (drop-set-lt (i + 1) xs i y (omega arith))
       ∙ append-assoc (take i xs) (y ∷ []) (G (drop (i + 1) xs))
       ∙ ap (λ ys. take i xs ++ ys) (sym (at-read F ∙ step (drop (i + 1) xs)))
       ∙ done
+
+  -- and the rest is as it was
+  pub rest-stays : (y : X) (zs : List X) → zs ≡ set xs i y → drop (i + 1) zs ≡ drop (i + 1) xs
+  rest-stays y zs written = ap (drop (i + 1)) written ∙ drop-set-lt (i + 1) xs i y (omega arith)

@@ -20,7 +20,7 @@ abbrev pub most-weight : ℕ
 most-weight = 3000000000
 
 -- what claims that weigh c of the whole w have of the amount: with q and m, the quotient and the remainder of the
--- amount by w, it is c × q and the whole part of c × m / w
+-- amount by w, it is c × q and the whole part of c × m / w (a quotient by 0 is 0, so where there is no weight it is 0)
 abbrev pub portion : ℕ → ℕ → ℕ → ℕ
 portion amount w c = c * (amount / w) + c * (amount % w) / w
 
@@ -41,10 +41,6 @@ abbrev pub unshareable : List ℕ → List ℕ → ℕ → Bool
 unshareable owners weights amount =
     ltb most-amount amount || (ltb most-weight (total weights) || ((ltb 0 amount && eqb (total weights) 0) || repeated owners))
 
--- the sum of the weights, where the amount can be shared by them
-abbrev pub weighed : List ℕ → List ℕ → ℕ → Result ℕ Refusal
-weighed owners weights amount = cond (unshareable owners weights amount) (Err CannotShare) (Ok (total weights))
-
 -- the answer
 abbrev pub shared : List ℕ → List ℕ → ℕ → Result (Unit {0}) Refusal
 shared owners weights amount = cond (unshareable owners weights amount) (Err CannotShare) (Ok tt)
@@ -60,6 +56,10 @@ abbrev pub settled : {C : Type 0} → Result (Unit {0}) Refusal → (C → ℕ �
 settled (Ok _) give claims ss = each-given give claims ss
 settled (Err _) give claims ss = claims
 
--- a sum, unless it is above the limit on weights
+-- On the way to the answer: a sum, unless it is above the limit on weights,
 abbrev pub limited : ℕ → Option ℕ
 limited n = cond (ltb most-weight n) None (Some n)
+
+-- and the sum of the weights, where the amount can be shared by them
+abbrev pub weighed : List ℕ → List ℕ → ℕ → Result ℕ Refusal
+weighed owners weights amount = cond (unshareable owners weights amount) (Err CannotShare) (Ok (total weights))

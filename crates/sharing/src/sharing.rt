@@ -1,7 +1,8 @@
 // The one method of sharing, for every kind of weighed claim.
 ghost use mathlib.Core.Path.{_≡_};
 ghost use mathlib.Core.List.{map};
-ghost use Prim.Native.Nat.{_≤_};
+ghost use Prim.Native.Nat.{_<_, _≤_};
+ghost use lib.ListN.{length, getD, set};
 ghost use Rattle.sharing.specs.Lists.{total, among, repeated};
 ghost use Rattle.sharing.specs.Sharing.{portion, shares, weighed, shared, each-given, settled};
 ghost use Rattle.sharing.specs.Theorems.{Shared-fairly};
@@ -50,6 +51,15 @@ fn running_share(amount: u64, whole: u64, first: u64) -> u64
     first * (amount / whole) + first * (amount % whole) / whole
 }
 
+// Writes the share into the claim at this place: the claim is copied out, its share set, and stored back.
+fn set_share<T: WeighedClaim>(claims: &mut [T], place: usize, share: u64)
+    requires { ⌜ place < length (now claims) ⌝ }
+    ensures { λ _. ⌜ ((c : T) → now (claims .exit) ≡ set (now (claims .entry)) place (given (getD (now (claims .entry)) place c) share)) ⌝ }
+{
+    let claim = claims[place];
+    claims[place] = claim.with_share(share);
+}
+
 // Writes into each claim its share of the amount: its running share less the one before it. `sum` is the sum of the
 // first weights.
 fn write_shares<T: WeighedClaim>(claims: &mut [T], amount: u64, whole: u64)
@@ -60,10 +70,9 @@ fn write_shares<T: WeighedClaim>(claims: &mut [T], amount: u64, whole: u64)
     let mut sum: u64 = 0;
     let mut running: u64 = 0;
     for i in 0..claims.len() {
-        let claim = claims[i];
-        sum += claim.weight();
+        sum += claims[i].weight();
         let next = running_share(amount, whole, sum);
-        claims[i] = claim.with_share(next - running);
+        set_share(claims, i, next - running);
         running = next;
     }
 }

@@ -1,4 +1,4 @@
-use mathlib.Core.Path.{_≡_, sym, ap}
+use mathlib.Core.Path.{sym, ap}
 use mathlib.Core.List.{map}
 use borrow.Author.Needs.{needs}
 use Rattle.rules.proofs.Eight.{eight}

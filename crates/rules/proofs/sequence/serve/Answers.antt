@@ -1,7 +1,4 @@
-use mathlib.Core.Path.{refl}
-use Prim.Native.Nat.{_+_}
 use native.Mathlib.Omega.{arith}
-use Rattle.rules.specs.Sequences.{in-turn}
 use Rattle.rules.proofs.Orders.{order-at}
 use Rattle.rules.proofs.Turns.{served-more, served-all}
 use Rattle.rules.proofs.sequence.serve.Needs as need

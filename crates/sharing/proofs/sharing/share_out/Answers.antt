@@ -1,6 +1,7 @@
 use mathlib.Core.Path.{sym}
 use mathlib.Core.List.{map}
 use Rattle.std.proofs.shelf.Lists.{length-map}
+use Rattle.sharing.specs.Sharing.{shares}
 use Rattle.sharing.proofs.Shares.{same-told, shares-told}
 use Rattle.sharing.proofs.Laws.{fair-shares, weighed-ok}
 use Rattle.sharing.proofs.sharing.share_out.Needs as need
@@ -14,7 +15,7 @@ returns g c =
     record {
       answers = ok .0;
       settles = done;
-      owners = same-told give holder (g .T·WeighedClaim·met .«keeps_owner») xs _ ys done;
-      weights = same-told give f (g .T·WeighedClaim·met .«keeps_weight») xs _ ys done;
+      owners = same-told give holder (g .T·WeighedClaim·met .«keeps_owner») xs (shares (map f xs) a) ys done;
+      weights = same-told give f (g .T·WeighedClaim·met .«keeps_weight») xs (shares (map f xs) a) ys done;
       fair = fair-shares (map f xs) a (map gets ys) (ok .1) (shares-told give gets (g .T·WeighedClaim·met .«sets_share») xs (map f xs) a ys (sym (length-map xs f)) done);
     }
