@@ -30,7 +30,8 @@ fn by_another_order() -> Result<(), Fail> {
     )
 }
 
-// 1 + 2 + 3 + 4 of 5 needed by seats 1 to 4; in the other order seats 8 and 7 come first.
+// In order, seats 1 to 3 get their needs of 1, 2 and 3, and seat 4 the last 4 of 10 against a need of 5. Backward, seat 8
+// gets its need of 6, and seat 7 the last 3 of 9.
 #[test]
 fn by_order_and_backward() -> Result<(), Fail> {
     let needs = [1, 2, 3, 5, 1, 1, 4, 6];

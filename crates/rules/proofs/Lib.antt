@@ -1,4 +1,4 @@
-pub mod Eight
+mod Eight
 pub mod Answered
 mod Orders
 mod Turns

@@ -1,6 +1,6 @@
 pub mod Made
 mod Steps
-pub mod Limits
+mod Limits
 mod Portions
 pub mod Shares
 pub mod Laws
