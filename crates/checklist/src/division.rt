@@ -1,11 +1,12 @@
 // One surplus divided by a rule, with the calls that remain.
 ghost use mathlib.Core.Path.{_≡_};
 ghost use mathlib.Core.Bool.{_&&_};
-ghost use Prim.Native.Nat.{ℕ, _≤_};
+ghost use Prim.Native.Nat.{ℕ, _+_, _≤_};
 ghost use lib.Dec.{eqb};
 ghost use lib.ListN.{getD};
 ghost use Rattle.sharing.specs.Lists.{total};
-ghost use Rattle.checklist.specs.Dividing.{calls, outcome, both, Adds-up, Same-totals};
+ghost use Rattle.rules.specs.Division.{Fair};
+ghost use Rattle.checklist.specs.Dividing.{calls, division-of, outcome, both, Adds-up, Same-totals};
 use rules::rule::DivisionRule;
 use sharing::refusal::Refusal;
 use sharing::totals::total_within;
@@ -42,6 +43,23 @@ fn sum_of(numbers: &[u64; 8]) -> u64
     }
 }
 
+// The division of these shares, with the calls that they leave.
+fn division_from(needs: &[u64; 8], shares: [u64; 8], amount: u64) -> Division
+    requires low { ⌜ total (now needs) ≤ 3000000000 ⌝ }
+    requires fair { ⌜ Fair (now needs) amount shares ⌝ }
+    ensures is { λ r. ⌜ r ≡ division-of (now (needs .entry)) shares ⌝ }
+    ensures adds { λ r. ⌜ (r .shared ≡ amount) × (r .called + amount ≡ total (now (needs .entry))) ⌝ }
+{
+    let calls = calls_of(needs, &shares);
+    Division {
+        shares,
+        calls,
+        needed: sum_of(needs),
+        shared: sum_of(&shares),
+        called: sum_of(&calls),
+    }
+}
+
 // Divides the amount among the needs by the rule. By every rule the shares sum to the amount, and the calls to what
 // the needs exceed it by.
 pub fn divide_by<R: DivisionRule>(
@@ -53,14 +71,7 @@ pub fn divide_by<R: DivisionRule>(
     ensures adds { λ r. ⌜ Adds-up (now (needs .entry)) amount r ⌝ }
 {
     let shares = rule.divide(needs, amount)?;
-    let calls = calls_of(needs, &shares);
-    Ok(Division {
-        shares,
-        calls,
-        needed: sum_of(needs),
-        shared: sum_of(&shares),
-        called: sum_of(&calls),
-    })
+    Ok(division_from(needs, shares, amount))
 }
 
 // Divides the amount by one rule and by another: whichever they are, no total differs.

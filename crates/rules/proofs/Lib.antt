@@ -1,5 +1,4 @@
 mod Eight
-pub mod Answered
 mod Orders
 mod Turns
 mod Proportions
