@@ -1,0 +1,11 @@
+pub mod Numbered
+pub mod Sums
+pub mod SetOffs
+pub mod Rounding
+pub mod Calls
+pub mod Checks
+pub mod Rows
+pub mod Keeping
+pub mod Histories
+pub mod Runs
+pub mod Fits
