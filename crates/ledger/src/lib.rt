@@ -1,4 +1,5 @@
 // The vocabulary of the book's calls, and the rulebook: what each call means, and the laws over every run of calls.
+#![tactic(auto)]
 
 pub mod deal;
 pub mod fault;

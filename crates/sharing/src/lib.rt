@@ -1,4 +1,5 @@
 // How an amount is shared among weighed claims: the claims, the one method of sharing, and the causes of refusal.
+#![tactic(auto)]
 
 pub mod claims;
 pub mod holding;

@@ -13,7 +13,7 @@ pub const MOST_AMOUNT: u64 = 100_000_000_000_000_000;
 
 // Whether one of the claims belongs to the owner.
 fn owner_among<T: Owned>(claims: &[T], owner: u64) -> bool
-    ensures { result ≡ among owner (map holder claims.now) }
+    ensures { result ≡ among owner (map T.holder claims.now) }
 {
     for claim in claims {
         if claim.owner() == owner {
@@ -25,7 +25,7 @@ fn owner_among<T: Owned>(claims: &[T], owner: u64) -> bool
 
 // Whether two of the claims belong to one owner.
 fn owner_repeated<T: Owned>(claims: &[T]) -> bool
-    ensures { result ≡ repeated (map holder claims.now) }
+    ensures { result ≡ repeated (map T.holder claims.now) }
 {
     for i in 0..claims.len() {
         let owner = claims[i].owner();
@@ -51,7 +51,7 @@ fn running_share(amount: u64, whole: u64, first: u64) -> u64
 // Writes the share into the claim at this place: the claim is copied out, its share set, and stored back.
 fn set_share<T: WeighedClaim>(claims: &mut [T], place: usize, share: u64)
     requires { place < length claims.old }
-    ensures { (c : T) → claims.new ≡ slice_set claims.old place (given (slice_index_or claims.old place c) share) }
+    ensures { (c : T) → claims.new ≡ slice_set claims.old place (T.given (slice_index_or claims.old place c) share) }
 {
     let claim = claims[place];
     claims[place] = claim.with_share(share);
@@ -60,9 +60,9 @@ fn set_share<T: WeighedClaim>(claims: &mut [T], place: usize, share: u64)
 // Writes into each claim its share of the amount: its running share less the one before it. `sum` is the sum of the
 // first weights.
 fn write_shares<T: WeighedClaim>(claims: &mut [T], amount: u64, whole: u64)
-    requires weighed { whole ≡ total (map weighs claims.old) }
+    requires weighed { whole ≡ total (map T.weighs claims.old) }
     requires within { whole ≤ 3000000000 }
-    ensures { claims.new ≡ each_given given claims.old (shares (map weighs claims.old) amount) }
+    ensures { claims.new ≡ each_given T.given claims.old (shares (map T.weighs claims.old) amount) }
 {
     let mut sum: u64 = 0;
     let mut running: u64 = 0;
@@ -77,7 +77,7 @@ fn write_shares<T: WeighedClaim>(claims: &mut [T], amount: u64, whole: u64)
 // The sum of the weights, where the amount can be shared by them. Refused where the amount or the sum of the weights is
 // above its limit, where there is an amount and no weight, and where two claims belong to one owner.
 fn weigh<T: WeighedClaim>(claims: &[T], amount: u64) -> Result<u64, Refusal>
-    ensures { result ≡ weighed (map T.Owned.holder claims.now) (map weighs claims.now) amount }
+    ensures { result ≡ weighed (map T.Owned.holder claims.now) (map T.weighs claims.now) amount }
 {
     if amount > MOST_AMOUNT {
         return Err(Refusal::CannotShare);
@@ -97,11 +97,11 @@ fn weigh<T: WeighedClaim>(claims: &[T], amount: u64) -> Result<u64, Refusal>
 // Shares the amount among the claims by their weights, and writes each share into its claim; owners and weights stay.
 // Where it is refused, the claims are as they were.
 pub fn share_out<T: WeighedClaim>(claims: &mut [T], amount: u64) -> Result<(), Refusal>
-    ensures answers { result ≡ shared (map T.Owned.holder claims.old) (map weighs claims.old) amount }
-    ensures settles { claims.new ≡ settled result given claims.old (shares (map weighs claims.old) amount) }
+    ensures answers { result ≡ shared (map T.Owned.holder claims.old) (map T.weighs claims.old) amount }
+    ensures settles { claims.new ≡ settled result T.given claims.old (shares (map T.weighs claims.old) amount) }
     ensures owners { map T.Owned.holder claims.new ≡ map T.Owned.holder claims.old }
-    ensures weights { map weighs claims.new ≡ map weighs claims.old }
-    ensures fair { SharedFairly result (map weighs claims.old) amount (map gets claims.new) }
+    ensures weights { map T.weighs claims.new ≡ map T.weighs claims.old }
+    ensures fair { SharedFairly result (map T.weighs claims.old) amount (map T.gets claims.new) }
 {
     let whole = weigh(claims, amount)?;
     write_shares(claims, amount, whole);

@@ -31,7 +31,7 @@ pub fn total_within(numbers: &[u64]) -> Option<u64>
 
 // The sum of the weights of the claims, unless it is above the limit.
 pub(crate) fn total_weight<T: WeighedClaim>(claims: &[T]) -> Option<u64>
-    ensures { result ≡ limited (total (map weighs claims.now)) }
+    ensures { result ≡ limited (total (map T.weighs claims.now)) }
 {
     let mut sum = 0;
     for claim in claims {

@@ -7,7 +7,7 @@ pub returns-then-seats-eq8 : goal.returns-then-seats-eq8
 unfolding full_order
 returns-then-seats-eq8 c =
     let seats = c.args.seats.now in
-    c.each-named-once.ensures ∙ sym (ap (λ b. b && each_once eight_seats seats) (eq-eqb (length seats) 8 c.if-seats-eq8.true))
+    c.each_named_once.ensures ∙ sym (ap (λ b. b && each_once eight_seats seats) (eq-eqb (length seats) 8 c.if-seats-eq8.true))
 
 pub returns-else-seats-eq8 : goal.returns-else-seats-eq8
 unfolding full_order

@@ -3,8 +3,8 @@ use Rattle.rules.specs.Orders.{order_at}
 use Rattle.rules.specs.Turns.{served_more, served_all}
 use Rattle.rules.proofs.sequence.serve.Goals as goal
 
-pub overflow-sub-place : goal.overflow-sub-place
-overflow-sub-place c = omega (arith, order_at c.args.seats.now c.requires c.loop-seat.seat-index c.loop-seat-test.true)
+pub overflow_sub-place : goal.overflow_sub-place
+overflow_sub-place c = omega (arith, order_at c.args.seats.now c.requires c.loop-seat.seat-index c.loop-seat-test.true)
 
 pub bounds-needs-place : goal.bounds-needs-place
 bounds-needs-place c = omega (arith, order_at c.args.seats.now c.requires c.loop-seat.seat-index c.loop-seat-test.true)

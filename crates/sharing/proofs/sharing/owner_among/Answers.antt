@@ -7,14 +7,14 @@ use Rattle.sharing.proofs.sharing.owner_among.Goals as goal
 
 pub returns-then-owner : goal.returns-then-owner
 returns-then-owner g c =
-    let step = among_read c.args.claims.now c.loop-claim.claim-index c.claim-item.result c.loop-claim-test.true c.claim-item.is g.T-as-Owned.holder c.args.owner in
+    let step = among_read c.args.claims.now c.loop-claim.claim-index c.claim-item.result c.loop-claim-test.true c.claim-item.is g.T.Owned.holder c.args.owner in
     grind (arith, nat_tests)
 
 pub loop-claim-preserved : goal.loop-claim-preserved
 loop-claim-preserved g c =
-    let step = among_read c.args.claims.now c.loop-claim.claim-index c.claim-item.result c.loop-claim-test.true c.claim-item.is g.T-as-Owned.holder c.args.owner in
+    let step = among_read c.args.claims.now c.loop-claim.claim-index c.claim-item.result c.loop-claim-test.true c.claim-item.is g.T.Owned.holder c.args.owner in
     grind (arith, nat_tests)
 
 pub returns : goal.returns
 returns g c =
-    let end = at_drop_all (λ ys. among c.args.owner (map g.T-as-Owned.holder ys)) c.args.claims.now c.loop-claim.claim-index c.loop-claim-test.false in cc
+    let end = at_drop_all (λ ys. among c.args.owner (map g.T.Owned.holder ys)) c.args.claims.now c.loop-claim.claim-index c.loop-claim-test.false in cc

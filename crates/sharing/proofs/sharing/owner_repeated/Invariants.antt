@@ -3,4 +3,4 @@ use Rattle.sharing.specs.Lists.{repeated}
 use Rattle.sharing.proofs.sharing.owner_repeated.Given as goal
 
 abbrev pub invariant-loop-i : goal.invariant-loop-i
-invariant-loop-i g l = let h = g.T-as-Owned.holder in repeated (map h (drop l.i l.claims)) ≡ repeated (map h l.claims)
+invariant-loop-i g l = let h = g.T.Owned.holder in repeated (map h (drop l.i l.claims)) ≡ repeated (map h l.claims)

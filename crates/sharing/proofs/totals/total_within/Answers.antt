@@ -5,17 +5,17 @@ use Rattle.sharing.specs.Sharing.{limited}
 use Rattle.sharing.proofs.Limits.{past_limit, in_limit, limit_kept}
 use Rattle.sharing.proofs.totals.total_within.Goals as goal
 
-pub returns-in-err-sum : goal.returns-in-err-sum
-returns-in-err-sum c =
+pub returns-in_err-sum : goal.returns-in_err-sum
+returns-in_err-sum c =
     let xs = c.args.numbers.now in let i = c.loop-n.n-index in
     let step : total (drop i xs) ≡ get_or xs i 0 + total (drop (i + 1) xs) = at_drop_more total xs i 0 c.loop-n-test.true in
-    c.from-residual.ensures ∙ past_limit c.loop-n.sum (get_or xs i 0) (total (drop (i + 1) xs)) (total xs) (omega arith) c.in-err-sum.ensures
+    c.from_residual.ensures ∙ past_limit c.loop-n.sum (get_or xs i 0) (total (drop (i + 1) xs)) (total xs) (omega arith) c.in_err-sum.ensures
 
 pub loop-n-preserved : goal.loop-n-preserved
 loop-n-preserved c =
     let xs = c.args.numbers.now in let i = c.loop-n.n-index in
     let step : total (drop i xs) ≡ get_or xs i 0 + total (drop (i + 1) xs) = at_drop_more total xs i 0 c.loop-n-test.true in
-    let more = in_limit c.loop-n.sum (get_or xs i 0) c.in-ok-sum.sum c.in-ok-sum.ensures in
+    let more = in_limit c.loop-n.sum (get_or xs i 0) c.in_ok-sum.sum c.in_ok-sum.ensures in
     (more.1, omega arith)
 
 pub returns : goal.returns

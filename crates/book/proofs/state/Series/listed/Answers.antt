@@ -2,5 +2,5 @@ use Rattle.std.proofs.Common.{refl}
 use Rattle.book.proofs.Fields.{listing_within}
 use Rattle.book.proofs.state.Series.listed.Goals as goal
 
-pub invariant-of-result : goal.invariant-of-result
-invariant-of-result c = let w = listing_within c.args.listing.now c.requires in (w.code, (w.size, (w.price, (w.risk, (refl, tt)))))
+pub invariant_of-result : goal.invariant_of-result
+invariant_of-result c = let w = listing_within c.args.listing.now c.requires in (w.code, (w.size, (w.price, (w.risk, (refl, tt)))))
