@@ -1,12 +1,11 @@
 -- What fields within their limits keep to.
-use Rattle.std.proofs.Common.{◌≡◌, ℕ, ◌≤◌, Bool, true, false, ◌||◌, Some, None, Option, sym, refl, arith}
+use Rattle.std.proofs.Common.{◌≡◌, ℕ, Bool, true, false, ◌||◌, Some, None, sym, refl, arith}
 use Rattle.std.proofs.lemmas.Bool.{false≢true}
 use Rattle.std.proofs.lemmas.Bool.Decides.{nat_tests}
 use Rattle.ledger.specs.declared.listing.Listing.{Listing}
 use Rattle.ledger.specs.declared.deal.Deal.{Deal}
 use Rattle.ledger.specs.declared.repricing.Repricing.{Repricing}
 use Rattle.ledger.specs.declared.market.Market.{Market}
-use Rattle.ledger.specs.declared.side.Side.{Side}
 use Rattle.ledger.specs.Limits.{field_outside}
 use Rattle.ledger.specs.Numbers.{market_number, market_numbered, side_numbered}
 use Rattle.ledger.specs.Bookings.{wrong_listing, wrong_deal, wrong_repricing}

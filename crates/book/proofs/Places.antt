@@ -1,12 +1,12 @@
 -- The series of a code, by its place.
 use Rattle.std.proofs.Common.{◌≡◌, ℕ, zero, suc, ◌+◌, ◌<◌, ◌≤◌, Bool, true, false, cond, eqb, List, [], ◌∷◌, ◌++◌, map, length, get_or, take, drop, set, is_some, Some, None, Option, sym, refl, ap, ◌∙◌, subst, arith}
-use Rattle.std.proofs.lemmas.List.{at_drop_more, at_drop_all, get_or-take, get_or-map, length-take-le, length-take, length-map, map-set, take_more_set}
+use Rattle.std.proofs.lemmas.List.{at_drop_more, at_drop_all, get_or-take, get_or-map, length-take-le, length-map, map-set, take_more_set}
 use Rattle.std.proofs.lemmas.Bool.{eq-eqb, ne_eqb}
 use Rattle.ledger.specs.Ledger.{Row, row_at, at_code}
 use Rattle.book.specs.declared.state.Series.{Series}
 use Rattle.book.specs.declared.state.Book.{Book}
 use Rattle.book.specs.Views.{row_from, rows_of}
-use Rattle.book.specs.Found.{Stands, Found}
+use Rattle.book.specs.Found.{Stands}
 
 -- where the row of a code stands, the first row being the n-th
 abbrev pub place_from : ℕ → List Row → ℕ → Option ℕ

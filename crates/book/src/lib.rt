@@ -1,4 +1,5 @@
 // The book of a power group: what it holds, and its calls.
+#![tactic(auto)]
 
 mod bookings;
 mod calls;

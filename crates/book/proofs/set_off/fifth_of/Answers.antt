@@ -6,5 +6,5 @@ use Rattle.book.proofs.set_off.fifth_of.Goals as goal
 pub returns : goal.returns
 returns c = record {
   value = grind (arith, to_z-of_z);
-  bound = mul-le c.args.rate c.unsigned-abs.result 2000000000 2000000 (omega arith) (omega (arith, ints));
+  bound = mul-le c.args.rate c.unsigned_abs.result 2000000000 2000000 (omega arith) (omega (arith, ints));
 }

@@ -9,7 +9,7 @@ loop-k-init c = over_none (line_of c.args.margins.now) c.args.lines.now
 
 pub loop-k-preserved : goal.loop-k-preserved
 loop-k-preserved c =
-    over_more (line_of c.args.margins.now) c.args.lines.now c.loop-k.lines c.loop-k.k c.line-at.result (omega arith) c.loop-k.invariant c.line-at.ensures
+    over_more (line_of c.args.margins.now) c.args.lines.now c.loop-k.lines c.loop-k.k c.line_at.result (omega arith) c.loop-k.invariant c.line_at.ensures
 
 pub returns : goal.returns
 returns c =

@@ -9,5 +9,5 @@ pub returns : goal.returns
 returns c =
     let l = ledger_of c.args.self.now in
     let b = deals c.args.deal in
-    let e = booking_decided l b c.book-deal.result (search rules) c.book-deal.ensures.answers in
-    record { answers = e; turned = done_turned l (dealing c.args.deal) tt (open_checks l b) refl refl c.book-deal.result e _ c.book-deal.ensures.books }
+    let e = booking_decided l b c.book_deal.result (search rules) c.book_deal.ensures.answers in
+    record { answers = e; turned = done_turned l (dealing c.args.deal) tt (open_checks l b) refl refl c.book_deal.result e _ c.book_deal.ensures.books }

@@ -1,4 +1,4 @@
-use Rattle.std.proofs.Common.{◌≡◌, sym, ◌∙◌, rules}
+use Rattle.std.proofs.Common.{sym, ◌∙◌, rules}
 use Rattle.book.proofs.Places.{place_here, place_on, place_none, stands, listed_at, found_nowhere, not_listed}
 use Rattle.book.proofs.state.Book.find.Goals as goal
 

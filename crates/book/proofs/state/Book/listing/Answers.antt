@@ -9,5 +9,5 @@ pub returns : goal.returns
 returns c =
     let l = ledger_of c.args.self.now in
     let b = lists c.args.series in
-    let e = booking_decided l b c.book-listing.result (search rules) c.book-listing.ensures.answers in
-    record { answers = e; turned = done_turned l (listing c.args.series) tt (open_checks l b) refl refl c.book-listing.result e _ c.book-listing.ensures.books }
+    let e = booking_decided l b c.book_listing.result (search rules) c.book_listing.ensures.answers in
+    record { answers = e; turned = done_turned l (listing c.args.series) tt (open_checks l b) refl refl c.book_listing.result e _ c.book_listing.ensures.books }

@@ -9,5 +9,5 @@ pub returns : goal.returns
 returns c =
     let l = ledger_of c.args.self.now in
     let b = reprices c.args.new in
-    let e = booking_decided l b c.book-repricing.result (search rules) c.book-repricing.ensures.answers in
-    record { answers = e; turned = done_turned l (repricing c.args.new) tt (open_checks l b) refl refl c.book-repricing.result e _ c.book-repricing.ensures.books }
+    let e = booking_decided l b c.book_repricing.result (search rules) c.book_repricing.ensures.answers in
+    record { answers = e; turned = done_turned l (repricing c.args.new) tt (open_checks l b) refl refl c.book_repricing.result e _ c.book_repricing.ensures.books }

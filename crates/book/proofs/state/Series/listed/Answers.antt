@@ -3,4 +3,4 @@ use Rattle.book.proofs.Fields.{listing_within}
 use Rattle.book.proofs.state.Series.listed.Goals as goal
 
 pub invariant_of-result : goal.invariant_of-result
-invariant_of-result c = let w = listing_within c.args.listing.now c.requires in (w.code, (w.size, (w.price, (w.risk, (refl, tt)))))
+invariant_of-result c = let w = listing_within c.args.listing.now c.requires in record { coded = w.code; sized = w.size; priced = w.price; risky = w.risk; seats = refl }

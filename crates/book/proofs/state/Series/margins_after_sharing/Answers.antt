@@ -10,8 +10,8 @@ use Rattle.book.proofs.state.Series.margins_after_sharing.Goals as goal
 pub loop-k-init : goal.loop-k-init
 loop-k-init c = over_none (margin_of c.args.members (row_from c.args.self.now)) (replicate 8 no_margin)
 
-pub margin-with-requires : goal.margin-with-requires
-margin-with-requires c =
+pub margin_with-requires : goal.margin_with-requires
+margin_with-requires c =
     let v = c.volume_at.ensures in
     record {
       rated = c.rate-rate.ensures.bound;

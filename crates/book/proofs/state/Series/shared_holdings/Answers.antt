@@ -13,4 +13,4 @@ pub returns : goal.returns
 returns c =
     let s = c.args.self.now in
     shares_shown c.args.members c.requires.few (row_from s) (series_within s) c.args.surplus c.from-count.result c.holdings-holdings.result
-    c.from-count.ensures c.holdings-holdings.ensures c.requires.whole c.share-out.new.claims c.in-Ok.ensures.fair.are
+    c.from-count.ensures c.holdings-holdings.ensures c.requires.whole c.share_out.new.claims c.in-Ok.ensures.fair.are
