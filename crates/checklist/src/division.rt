@@ -64,7 +64,7 @@ pub fn divide_by<R: DivisionRule>(
     needs: &[u64; 8],
     amount: u64,
 ) -> Result<Division, Refusal>
-    ensures answers { result ≡ outcome (meaning rule.now) needs.now amount }
+    ensures answers { result ≡ outcome (R.meaning rule.now) needs.now amount }
     ensures adds { AddsUp needs.now amount result }
 {
     let shares = rule.divide(needs, amount)?;

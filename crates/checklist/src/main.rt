@@ -1,5 +1,6 @@
 // The checklist that a field engineer runs when a module is put into service. It divides one group's surplus by two
 // rules, and shows that a change of the rule moves no total. A check that fails ends the program with status 1.
+#![tactic(auto)]
 
 mod division;
 mod offset;

@@ -3,17 +3,17 @@ use Rattle.sharing.specs.Lists.{total}
 use Rattle.checklist.proofs.Divisions.{calls_total}
 use Rattle.checklist.proofs.division.division_from.Goals as goal
 
-pub sum-of-requires-2 : goal.sum-of-requires-2
-sum-of-requires-2 c = omega (arith, calls_total c.args.needs.now c.args.shares c.args.amount (search rules) c.requires.fair)
+pub sum_of-requires-2 : goal.sum_of-requires-2
+sum_of-requires-2 c = omega (arith, calls_total c.args.needs.now c.args.shares c.args.amount (search rules) c.requires.fair)
 
-pub sum-of-requires-3 : goal.sum-of-requires-3
-sum-of-requires-3 c =
-    let e = ap total c.calls-of-calls.ensures in
+pub sum_of-requires-3 : goal.sum_of-requires-3
+sum_of-requires-3 c =
+    let e = ap total c.calls_of-calls.ensures in
     omega (arith, calls_total c.args.needs.now c.args.shares c.args.amount (search rules) c.requires.fair)
 
 pub returns : goal.returns
 returns c =
-    let e = ap total c.calls-of-calls.ensures in
+    let e = ap total c.calls_of-calls.ensures in
     let t = calls_total c.args.needs.now c.args.shares c.args.amount (search rules) c.requires.fair in
     let s = c.requires.fair.sum in
     record { is = cc; adds = (omega arith, omega arith) }
