@@ -1,5 +1,6 @@
 // Sharing, division, the fields of bookings and the calls of a book at the edges of their limits. The expected figures are
 // worked out by hand beside each test.
+#![tactic(auto)]
 
 #[cfg(test)]
 mod booked;

@@ -13,7 +13,7 @@ pub trait DivisionRule {
 
     fn divide(&self, needs: &[u64; 8], amount: u64) -> Result<[u64; 8], Refusal>
         ensures answers { result ≡ divided (meaning self.now) needs.now amount }
-        ensures stays { (self.now ≡ self.now) × (needs.now ≡ needs.now) };
+        ensures stays { (self.exit.now ≡ self.entry.now) × (needs.exit.now ≡ needs.entry.now) };
 
     ghost fair: { (rule : Self) → Lawful (meaning rule) };
 }
