@@ -1,16 +1,26 @@
 // The questions: they are allowed in both stages, and change nothing.
-ghost use Rattle.std.specs.Prelude.{◌≡◌};
+ghost use Rattle.std.specs.Prelude.{◌≡◌, ◌≤◌, length};
+ghost use Rattle.ledger.specs.Margins.{over_lines};
 ghost use Rattle.ledger.specs.Checks.{decided};
 ghost use Rattle.ledger.specs.Calls.{position, position_checks, position_figures, position_answer, set_off, set_off_checks, set_off_held, set_off_answer};
 ghost use Rattle.ledger.specs.Runs.{Turned};
 ghost use Rattle.book.specs.Views.{ledger_of};
+ghost use Rattle.book.specs.SettingOff.{line_of};
 
-use super::set_off::write_lines;
+use super::set_off::{Margin, write_lines};
 use super::state::Book;
 use ledger::lines::SetOffLine;
 use sharing::refusal::Refusal;
 
 impl Book {
+    // Writes a line for each member of the book, in seat order. Further lines stay as they are.
+    fn write_members(&self, margins: &[Margin; 8], lines: &mut [SetOffLine])
+        requires { self.now.members ≤ length lines.old }
+        ensures { lines.new ≡ over_lines self.now.members (line_of margins.now) lines.old }
+    {
+        write_lines(lines, margins, self.members);
+    }
+
     // The net volume in MWh and the net cost in grosze of a seat in the series of a code.
     pub fn position(&self, seat: u16, code: u32) -> Result<(i64, i64), Refusal>
         ensures answers { result ≡ decided (position_checks (ledger_of self.now) seat code) (position_figures (ledger_of self.now) seat code) }
@@ -40,7 +50,7 @@ impl Book {
             return Err(Refusal::TooLittleRoom);
         }
         let margins = self.series[place].margins(self.members)?;
-        write_lines(lines, &margins, self.members);
+        self.write_members(&margins, lines);
         Ok(())
     }
 }

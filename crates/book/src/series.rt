@@ -58,7 +58,9 @@ impl Series {
         self.positions[seat as usize - 1] = position;
     }
 
-    // The position of the deal's seat after it, unless that is outside its limits.
+    // The position of the deal's seat after it, unless that is outside its limits. The test of a field is open to the
+    // prover here, so that a deal at another price would be refused for its figures.
+    #[tactic(auto, unfolding(ledger::specs::Limits::field_outside))]
     fn position_after(&self, deal: &Deal) -> Option<Position>
         requires fields { wrong_deal deal.now ≡ false }
         requires seat { (1 ≤ deal.now.seat) × (deal.now.seat ≤ most_members) }

@@ -9,4 +9,6 @@ mod divided;
 #[cfg(test)]
 mod fields;
 #[cfg(test)]
+mod offset;
+#[cfg(test)]
 mod shared;
