@@ -1,23 +1,33 @@
--- The holdings of the members can share the surplus, and what they then hold.
-use Rattle.std.proofs.Common.{◌≡◌, ℕ, zero, suc, ◌+◌, ◌<◌, ◌≤◌, false, ◌&&◌, eqb, ltb, List, ◌++◌, map, length, take, drop, Err, sym, refl, ap, ◌∙◌, arith}
+-- The holdings can share the surplus of the minor side, and what is then taken off each margin.
+use Rattle.std.proofs.Common.{◌≡◌, ℕ, zero, suc, ◌+◌, ◌<◌, ◌≤◌, Bool, true, false, cond, ◌&&◌, eqb, ltb, List, ◌++◌, map, length, get_or, take, drop, ℤ, pos, Ok, Err, Result, sym, refl, ap, ◌∙◌, arith}
 use Rattle.std.specs.List.{range_with_len}
-use Rattle.std.proofs.lemmas.List.{length-map, take_at}
-use Rattle.std.proofs.lemmas.Bool.{cond-false, ne_eqb, or_from}
+use Rattle.std.proofs.lemmas.List.{length-map, get_or-map, get_or-take, take_at}
+use Rattle.std.proofs.lemmas.Bool.{cond-true, lt-ltb, ne_eqb, or_from}
 use Rattle.std.proofs.lemmas.Bool.Decides.{nat_tests}
 use Rattle.sharing.specs.declared.refusal.Refusal.{Refusal}
-use Rattle.sharing.specs.declared.holding.Holding.{Holding}
+use Rattle.sharing.specs.declared.refusal.Refusal.TheVariants.{CannotShare, NoVolume}
+use Rattle.sharing.specs.declared.claims.Claim.{Claim}
+use Rattle.sharing.specs.declared.claims.Mwh.{Mwh}
 use Rattle.sharing.specs.Lists.{total, among, repeated, made}
 use Rattle.sharing.specs.Sharing.{shares, unshareable, shared}
+use Rattle.sharing.proofs.Made.{made_from}
 use Rattle.sharing.proofs.Shares.{length_shares}
 use Rattle.ledger.specs.Sums.{total_ℤ}
-use Rattle.ledger.specs.Ledger.{Row, net_at}
-use Rattle.ledger.specs.SetOff.{major_volume, spared, weights}
-use Rattle.ledger.specs.Margins.{rate_of, volumes, no_volume_of}
-use Rattle.ledger.specs.History.{RowWithin}
+use Rattle.ledger.specs.SetOff.{margin_before, major_volume, spared, weights, major_share, relief, no_volume}
 use Rattle.ledger.proofs.Sums.{map_made}
-use Rattle.ledger.proofs.Fits.{row_fits}
-use Rattle.book.specs.SettingOff.{holding_of}
-use Rattle.book.proofs.Reliefs.{length_weights}
+use Rattle.ledger.proofs.SetOffs.{relief_le}
+use Rattle.book.specs.declared.state.Position.{Position}
+use Rattle.book.specs.declared.set_off.Margin.{Margin}
+use Rattle.book.specs.SettingOff.{Terms, volumes_held, seat_margin, margin_of, no_margin, holding_of, HoldShares, SharesOut, relief_of, margin_with}
+use Rattle.book.proofs.Filled.{take_made}
+use Rattle.book.proofs.Held.{as_many, spared_within, weight_within}
+
+-- the owner and the weight of a holding
+abbrev owner_of : Claim Mwh → ℕ
+owner_of h = h.seat
+
+abbrev weight_of : Claim Mwh → ℕ
+weight_of h = h.weight
 
 -- the seats are counted up, so that none stands twice
 not_among : (seat a n : ℕ) → seat < a + 1 → among seat (map (λ k. k + 1) (range_with_len a n)) ≡ false
@@ -32,42 +42,75 @@ seats_apart : (n : ℕ) → repeated (made n (λ k. k + 1)) ≡ false
 unfolding made
 seats_apart n = apart_from 0 n
 
--- an amount and weights within their limits, with weight wherever there is something to share
-may_share : (owners ws : List ℕ) (a : ℕ) → a ≤ 64000000000000000 → total ws ≤ 16000000 → (ltb 0 a && eqb (total ws) 0) ≡ false → repeated owners ≡ false → unshareable owners ws a ≡ false
-may_share owners ws a low light some apart = grind (arith, nat_tests)
+-- within the limits, and with owners apart, only an amount with no weight to share it by is refused
+only_weightless : (owners ws : List ℕ) (a : ℕ) → a ≤ 64000000000000000 → total ws ≤ 16000000 → repeated owners ≡ false → unshareable owners ws a ≡ (ltb 0 a && eqb (total ws) 0)
+only_weightless owners ws a low few apart = grind (arith, nat_tests)
 
-module _ (n : ℕ) (few : n ≤ 8) (s : Row) (w : RowWithin s) (a count : ℕ) (hs : List Holding) (same : count ≡ n) (are : take n hs ≡ made n (holding_of n s)) (whole : a ≡ spared (rate_of s) (volumes n s)) where
-  part_is : take count hs ≡ made n (holding_of n s)
-  part_is = ap (λ i. take i hs) same ∙ are
+length_weights : (vs : List ℤ) → length (weights vs) ≡ length vs
+length_weights vs = length-map vs (major_volume (total_ℤ vs))
 
-  weights_are : map (λ h. h.mwh) (take count hs) ≡ weights (volumes n s)
+module _ (t : Terms) (ps : List Position) (seen : volumes_held ps ≡ t.volumes) (rated : t.rate ≤ 2000000000) (few : length ps ≤ 8) (hs : List (Claim Mwh)) (are : hs ≡ made 8 (holding_of t)) (a : ℕ) (whole : a ≡ spared t.rate t.volumes) where
+  front : take (length ps) hs ≡ made (length ps) (holding_of t)
+  front = ap (take (length ps)) are ∙ take_made (holding_of t) 8 (length ps) few
+
+  owners_are : map owner_of (take (length ps) hs) ≡ made (length ps) (λ k. k + 1)
+  owners_are = ap (map owner_of) front ∙ map_made owner_of (length ps) (holding_of t)
+
+  weights_are : map weight_of (take (length ps) hs) ≡ weights t.volumes
   weights_are =
-      ap (map (λ h. h.mwh)) part_is
-      ∙ map_made (λ h. h.mwh) n (holding_of n s)
-      ∙ sym (map_made (major_volume (total_ℤ (volumes n s))) n (λ k. (net_at s k).volume))
+      let long = as_many ps t.volumes seen in
+      ap (map weight_of) front
+      ∙ map_made weight_of (length ps) (holding_of t)
+      ∙ sym (made_from (λ k. major_volume (total_ℤ t.volumes) (get_or t.volumes k (pos 0))) (weights t.volumes) (length ps) 0 (length_weights t.volumes ∙ long)
+      (λ k h. get_or-map (major_volume (total_ℤ t.volumes)) t.volumes k (pos 0) 0 (omega arith)))
 
-  owners_are : map (λ h. h.seat) (take count hs) ≡ made n (λ k. k + 1)
-  owners_are = ap (map (λ h. h.seat)) part_is ∙ map_made (λ h. h.seat) n (holding_of n s)
+  answer_is : shared (map owner_of (take (length ps) hs)) (map weight_of (take (length ps) hs)) a ≡ cond (no_volume t.rate t.volumes) (Err CannotShare) (Ok tt)
+  answer_is =
+      let os = made (length ps) (λ k. k + 1) in
+      ap (λ xs. shared xs (map weight_of (take (length ps) hs)) a) owners_are
+      ∙ ap (λ ws. shared os ws a) weights_are
+      ∙ ap (shared os (weights t.volumes)) whole
+      ∙ ap (λ (b : Bool). cond b (Err CannotShare) (Ok tt))
+      (only_weightless os (weights t.volumes) (spared t.rate t.volumes) (spared_within ps t.volumes seen t.rate rated few) (weight_within ps t.volumes seen few) (seats_apart (length ps)))
 
-  shareable : no_volume_of n s ≡ false → unshareable (map (λ h. h.seat) (take count hs)) (map (λ h. h.mwh) (take count hs)) a ≡ false
-  shareable taken =
-      let fits = row_fits n few s w in
-      let ok : unshareable (made n (λ k. k + 1)) (weights (volumes n s)) (spared (rate_of s) (volumes n s)) ≡ false
-      = may_share (made n (λ k. k + 1)) (weights (volumes n s)) (spared (rate_of s) (volumes n s)) fits.shared_out fits.weight taken (seats_apart n) in
-      ap (λ os. unshareable os (map (λ h. h.mwh) (take count hs)) a) owners_are
-      ∙ ap (λ ws. unshareable (made n (λ k. k + 1)) ws a) weights_are
-      ∙ ap (unshareable (made n (λ k. k + 1)) (weights (volumes n s))) whole
-      ∙ ok
+  pub refused : (e : Refusal) → ◌≡◌ {A = Result (Unit {0}) Refusal} (Err e) (shared (map owner_of (take (length ps) hs)) (map weight_of (take (length ps) hs)) a) → SharesOut t (Err NoVolume)
+  refused e said = (by (no_volume t.rate t.volumes) (said ∙ answer_is), refl)
+    where
+      by : (b : Bool) → ◌≡◌ {A = Result (Unit {0}) Refusal} (Err e) (cond b (Err CannotShare) (Ok tt)) → b ≡ true
+      by true h = refl
+      by false h = let z : ◌≡◌ {A = ℕ} 0 1 = cc in absurd (omega arith)
 
-  pub never_refused : no_volume_of n s ≡ false → (e : Refusal) → Err e ≡ shared (map (λ h. h.seat) (take count hs)) (map (λ h. h.mwh) (take count hs)) a → ⊥
-  never_refused taken e said =
-      let both = said ∙ cond-false (unshareable (map (λ h. h.seat) (take count hs)) (map (λ h. h.mwh) (take count hs)) a) _ _ (shareable taken) in
-      let z : ◌≡◌ {A = ℕ} 0 1 = cc in omega arith
+  -- cs are the members' holdings after the sharing
+  pub accepted : (cs : List (Claim Mwh)) → ◌≡◌ {A = Result (Unit {0}) Refusal} (Ok tt) (shared (map owner_of (take (length ps) hs)) (map weight_of (take (length ps) hs)) a)
+      → map (λ h. h.share) cs ≡ shares (map weight_of (take (length ps) hs)) a → SharesOut t (Ok (cs ++ drop (length ps) hs))
+  accepted cs said told =
+      let by_rate : map (λ h. h.share) cs ≡ shares (weights t.volumes) (spared t.rate t.volumes) = told ∙ ap (λ ws. shares ws a) weights_are ∙ ap (shares (weights t.volumes)) whole in
+      let long : length cs ≡ length t.volumes = sym (length-map cs (λ h. h.share)) ∙ ap length by_rate ∙ length_shares (weights t.volumes) (spared t.rate t.volumes) ∙ length_weights t.volumes in
+      (by (no_volume t.rate t.volumes) (said ∙ answer_is), ap (map (λ h. h.share)) (take_at cs (drop (length ps) hs) (length t.volumes) long) ∙ by_rate)
+    where
+      by : (b : Bool) → ◌≡◌ {A = Result (Unit {0}) Refusal} (Ok tt) (cond b (Err CannotShare) (Ok tt)) → b ≡ false
+      by true h = let z : ◌≡◌ {A = ℕ} 0 1 = cc in absurd (omega arith)
+      by false h = refl
 
-  -- what the holdings show after the first of them were shared to
-  pub shares_shown : (cs : List Holding) → map (λ h. h.share) cs ≡ shares (map (λ h. h.mwh) (take count hs)) a
-      → map (λ h. h.share) (take n (cs ++ drop count hs)) ≡ shares (weights (volumes n s)) a
-  shares_shown cs told =
-      let by : map (λ h. h.share) cs ≡ shares (weights (volumes n s)) a = told ∙ ap (λ ws. shares ws a) weights_are in
-      let long : length cs ≡ n = sym (length-map cs (λ h. h.share)) ∙ ap length by ∙ length_shares (weights (volumes n s)) a ∙ length_weights n s in
-      ap (map (λ h. h.share)) (take_at cs (drop count hs) n long) ∙ by
+-- a member's margin, by what was shared to his holding
+module _ (t : Terms) (k : ℕ) (within : k < length t.volumes) (hs : List (Claim Mwh)) (h : Claim Mwh) (told : HoldShares t hs) where
+  share_told : (get_or hs k h).share ≡ major_share t.rate t.volumes k
+  unfolding major_share
+  share_told =
+      let long : length (take (length t.volumes) hs) ≡ length t.volumes
+      = sym (length-map (take (length t.volumes) hs) (λ x. x.share)) ∙ ap length told ∙ length_shares (weights t.volumes) (spared t.rate t.volumes) ∙ length_weights t.volumes in
+      sym (ap (λ x. x.share) (get_or-take (length t.volumes) hs k h within))
+      ∙ sym (get_or-map (λ x. x.share) (take (length t.volumes) hs) k h 0 (omega arith))
+      ∙ ap (λ xs. get_or xs k 0) told
+
+  module _ (v : ℤ) (read : v ≡ get_or t.volumes k (pos 0)) where
+    -- no more is taken off than there is
+    pub covered : relief_of t v (get_or hs k h).share ≤ margin_before t.rate v
+    covered =
+        let is : relief_of t v (get_or hs k h).share ≡ relief t.rate t.volumes k = let s = share_told in cc in
+        omega (arith, is, relief_le t.rate t.volumes k, ap (margin_before t.rate) read)
+
+    pub margin_made : (m : Margin) → m ≡ margin_with t v (get_or hs k h).share → m ≡ seat_margin t k
+    margin_made m e =
+        let is : m ≡ margin_of t k = let s = share_told in cc in
+        is ∙ sym (cond-true (ltb k (length t.volumes)) (margin_of t k) no_margin (lt-ltb k (length t.volumes) within))

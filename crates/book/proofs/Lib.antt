@@ -1,9 +1,8 @@
 pub mod Fields
+pub mod Trades
 pub mod Places
 pub mod Turns
-pub mod Within
 pub mod Filled
-pub mod Sides
-pub mod Reliefs
+pub mod Held
 pub mod Holdings
 pub mod Lines

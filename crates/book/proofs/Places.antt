@@ -1,23 +1,42 @@
 -- The series of a code, by its place.
-use Rattle.std.proofs.Common.{◌≡◌, ℕ, zero, suc, ◌+◌, ◌<◌, ◌≤◌, Bool, true, false, cond, eqb, List, [], ◌∷◌, ◌++◌, map, length, get_or, take, drop, set, is_some, Some, None, Option, sym, refl, ap, ◌∙◌, subst, arith}
-use Rattle.std.proofs.lemmas.List.{at_drop_more, at_drop_all, get_or-take, get_or-map, length-take-le, length-map, map-set, take_more_set}
-use Rattle.std.proofs.lemmas.Bool.{eq-eqb, ne_eqb}
-use Rattle.ledger.specs.Ledger.{Row, row_at, at_code}
+use Rattle.std.proofs.Common.{◌≡◌, ℕ, zero, suc, ◌+◌, ◌<◌, ◌≤◌, Bool, true, false, cond, eqb, List, [], ◌∷◌, ◌++◌, map, length, get_or, take, set, is_some, Some, None, Ok, Err, Option, Result, sym, refl, ap, ◌∙◌, subst, arith}
+use Rattle.std.proofs.lemmas.List.{get_or-take, get_or-map, length-take-le, length-map, map-set, take-map, take_more_set}
+use Rattle.std.specs.List.{position_from, position}
+use Rattle.std.proofs.lemmas.Iterator.Adapters.{position_from-zero}
+use Rattle.sharing.specs.declared.refusal.Refusal.{Refusal}
+use Rattle.ledger.specs.declared.deal.Deal.{Deal}
+use Rattle.ledger.specs.Ledger.{Row, Ledger, row_at, at_code}
+use Rattle.ledger.specs.Bookings.{deals, dealt_row}
 use Rattle.book.specs.declared.state.Series.{Series}
 use Rattle.book.specs.declared.state.Book.{Book}
-use Rattle.book.specs.Views.{row_from, rows_of}
-use Rattle.book.specs.Found.{Stands}
+use Rattle.book.specs.Views.{row_from, rows_of, ledger_of}
+use Rattle.book.specs.Found.{Stands, Found}
+use Rattle.book.specs.Booked.{deal_left, booking_left}
 
--- where the row of a code stands, the first row being the n-th
-abbrev pub place_from : ℕ → List Row → ℕ → Option ℕ
-place_from n [] code = None
-place_from n (r ∷ rs) code = cond (eqb r.code code) (Some n) (place_from (n + 1) rs code)
+-- where the row of a code stands
+abbrev pub has_code : ℕ → Row → Bool
+has_code code r = eqb r.code code
 
-no_row : (n : ℕ) (rs : List Row) (code : ℕ) → place_from n rs code ≡ None → row_at rs code ≡ None
+position_map : {X Y : Type 0} (p : Y → Bool) (f : X → Y) (n : ℕ) (xs : List X) → position_from p n (map f xs) ≡ position_from (λ x. p (f x)) n xs
+position_map p f n [] = refl
+position_map p f n (x ∷ xs) = ap (λ (o : Option ℕ). cond (p (f x)) (Some n) o) (position_map p f (n + 1) xs)
+
+no_series : Row
+no_series = record { code = 0; market = 0; size = 0; price = 0; risk = 0; nets = [] }
+
+same_rows : (code : ℕ) (rs : List Row) → at_code code (λ (r : Row). r) rs ≡ rs
+same_rows code [] = refl
+same_rows code (r ∷ rs) = by (same_rows code rs) (eqb r.code code)
+  where
+    by : at_code code (λ (r : Row). r) rs ≡ rs → (q : Bool) → cond q (r ∷ rs) (r ∷ at_code code (λ (r : Row). r) rs) ≡ r ∷ rs
+    by more true = refl
+    by more false = ap (λ (z : List Row). r ∷ z) more
+
+no_row : (n : ℕ) (rs : List Row) (code : ℕ) → position_from (has_code code) n rs ≡ None → row_at rs code ≡ None
 no_row n [] code e = refl
 no_row n (r ∷ rs) code e = by (no_row (n + 1) rs code) (eqb r.code code) e
   where
-    by : (place_from (n + 1) rs code ≡ None → row_at rs code ≡ None) → (q : Bool) → cond q (Some n) (place_from (n + 1) rs code) ≡ None → cond q (Some r) (row_at rs code) ≡ None
+    by : (position_from (has_code code) (n + 1) rs ≡ None → row_at rs code ≡ None) → (q : Bool) → cond q (Some n) (position_from (has_code code) (n + 1) rs) ≡ None → cond q (Some r) (row_at rs code) ≡ None
     by more true g = let z : ◌≡◌ {A = ℕ} 0 1 = cc in absurd (omega arith)
     by more false g = more g
 
@@ -27,12 +46,12 @@ record Placed (rs : List Row) (code i : ℕ) : Type 0 where
   pub row : (d : Row) → row_at rs code ≡ Some (get_or rs i d)
   pub changes : (f : Row → Row) (d : Row) → at_code code f rs ≡ set rs i (f (get_or rs i d))
 
-placed : (n : ℕ) (rs : List Row) (code k : ℕ) → place_from n rs code ≡ Some k → (i : ℕ) × (k ≡ n + i) × Placed rs code i
+placed : (n : ℕ) (rs : List Row) (code k : ℕ) → position_from (has_code code) n rs ≡ Some k → (i : ℕ) × (k ≡ n + i) × Placed rs code i
 placed n [] code k e = let z : ◌≡◌ {A = ℕ} 0 1 = cc in absurd (omega arith)
 placed n (r ∷ rs) code k e = by (placed (n + 1) rs code k) (eqb r.code code) refl e
   where
-    by : (place_from (n + 1) rs code ≡ Some k → (i : ℕ) × (k ≡ n + 1 + i) × Placed rs code i)
-        → (q : Bool) → eqb r.code code ≡ q → cond q (Some n) (place_from (n + 1) rs code) ≡ Some k → (i : ℕ) × (k ≡ n + i) × Placed (r ∷ rs) code i
+    by : (position_from (has_code code) (n + 1) rs ≡ Some k → (i : ℕ) × (k ≡ n + 1 + i) × Placed rs code i)
+        → (q : Bool) → eqb r.code code ≡ q → cond q (Some n) (position_from (has_code code) (n + 1) rs) ≡ Some k → (i : ℕ) × (k ≡ n + i) × Placed (r ∷ rs) code i
     by more true t g =
         let m : k ≡ n = cc in (
           0,
@@ -68,29 +87,8 @@ module _ (b : Book) where
   pub rows_counted : length (rows_of b) ≡ b.count
   rows_counted = length-take-le b.count (map row_from b.series) (simp length-map covers)
 
-  -- one series on, as the lookup reads it
-  place_more : (i code : ℕ) (s : Series) → i < b.count
-      → place_from i (drop i (rows_of b)) code ≡ cond (eqb (get_or b.series i s).code code) (Some i) (place_from (i + 1) (drop (i + 1) (rows_of b)) code)
-  place_more i code s h =
-      let at : get_or (rows_of b) i (row_from s) ≡ row_from (get_or b.series i s)
-      = get_or-take b.count (map row_from b.series) i (row_from s) h ∙ get_or-map row_from b.series i s (row_from s) (omega (arith, covers)) in
-      at_drop_more (λ z. place_from i z code) (rows_of b) i (row_from s) (omega (arith, rows_counted))
-      ∙ ap (λ (r : Row). cond (eqb r.code code) (Some i) (place_from (i + 1) (drop (i + 1) (rows_of b)) code)) at
-
-  pub place_here : (i code : ℕ) (s : Series) → i < b.count → (get_or b.series i s).code ≡ code → place_from i (drop i (rows_of b)) code ≡ Some i
-  place_here i code s h e =
-      place_more i code s h ∙ ap (λ (q : Bool). cond q (Some i) (place_from (i + 1) (drop (i + 1) (rows_of b)) code)) (eq-eqb (get_or b.series i s).code code e)
-
-  pub place_on : (i code : ℕ) (s : Series) → i < b.count → ((get_or b.series i s).code ≡ code → ⊥)
-      → place_from i (drop i (rows_of b)) code ≡ place_from (i + 1) (drop (i + 1) (rows_of b)) code
-  place_on i code s h e =
-      place_more i code s h ∙ ap (λ (q : Bool). cond q (Some i) (place_from (i + 1) (drop (i + 1) (rows_of b)) code)) (ne_eqb (get_or b.series i s).code code e)
-
-  pub place_none : (i code : ℕ) → b.count ≤ i → place_from i (drop i (rows_of b)) code ≡ None
-  place_none i code h = at_drop_all (λ z. place_from i z code) (rows_of b) i (omega (arith, rows_counted))
-
   -- the place of the code's row is that of its series
-  module _ (code i : ℕ) (e : place_from 0 (rows_of b) code ≡ Some i) where
+  module _ (code i : ℕ) (e : position_from (has_code code) 0 (rows_of b) ≡ Some i) where
     here : Placed (rows_of b) code i
     here =
         let p = placed 0 (rows_of b) code i e in
@@ -114,17 +112,36 @@ module _ (b : Book) where
           ∙ sym (here.changes f (row_from s));
     }
 
-  pub listed_at : (code i : ℕ) (s : Series) → Stands b code i → true ≡ is_some (row_at (rows_of b) code)
-  listed_at code i s w = sym (ap (λ (o : Option Row). is_some o) (w.row s))
-
-  pub found_nowhere : (code : ℕ) → place_from 0 (rows_of b) code ≡ None → row_at (rows_of b) code ≡ None
-  found_nowhere code e = no_row 0 (rows_of b) code e
-
-  pub not_listed : (code : ℕ) → row_at (rows_of b) code ≡ None → false ≡ is_some (row_at (rows_of b) code)
-  not_listed code e = sym (ap (λ (o : Option Row). is_some o) e)
+  -- what the search of the listed series finds
+  pub found_place : (code : ℕ) (o : Option ℕ) → o ≡ position (λ (s : Series). eqb s.code code) (take b.count b.series)
+      → (is_some o ≡ is_some (row_at (rows_of b) code)) × Found b code o
+  found_place code o e =
+      by o (
+      e
+      ∙ position_from-zero (λ (s : Series). eqb s.code code) (take b.count b.series)
+      ∙ sym (position_map (has_code code) row_from 0 (take b.count b.series))
+      ∙ ap (position_from (has_code code) 0) (sym (take-map row_from b.count b.series))
+      )
+    where
+      by : (o : Option ℕ) → o ≡ position_from (has_code code) 0 (rows_of b) → (is_some o ≡ is_some (row_at (rows_of b) code)) × Found b code o
+      by None e = let none = no_row 0 (rows_of b) code (sym e) in (sym (ap (λ (o : Option Row). is_some o) none), none)
+      by (Some i) e = (sym (ap (λ (o : Option Row). is_some o) ((here code i (sym e)).row no_series)), stands code i (sym e))
 
   -- a series put after the last
   pub rows_push : (t : Series) → b.count < length b.series → take (b.count + 1) (map row_from (set b.series b.count t)) ≡ rows_of b ++ (row_from t ∷ [])
   rows_push t l =
       let k : b.count < length (map row_from b.series) = simp length-map l in
       ap (take (b.count + 1)) (map-set row_from b.series b.count t) ∙ take_more_set (map row_from b.series) b.count (row_from t) k
+
+  -- a deal that a series took or refused, put on the seat that it names
+  pub deal_entered : (d : Deal) (seat i : ℕ) (s t : Series) (r : Result (Unit {0}) Refusal) → seat ≡ d.seat → Stands b d.code i
+      → row_from t ≡ deal_left seat d r (row_from (get_or b.series i s))
+      → ◌≡◌ {A = Ledger} (record { stage = b.stage; members = b.members; rows = take b.count (map row_from (set b.series i t)) }) (booking_left (deals d) r (ledger_of b))
+  deal_entered d seat i s t (Ok u) e w g =
+      ap (λ (rs : List Row). record { stage = b.stage; members = b.members; rows = rs }) (
+      w.changes (dealt_row d) s t (subst (λ (k : ℕ). row_from t ≡ deal_left k d (Ok u) (row_from (get_or b.series i s))) e g)
+      )
+  deal_entered d seat i s t (Err x) e w g =
+      ap (λ (rs : List Row). record { stage = b.stage; members = b.members; rows = rs }) (
+      w.changes (λ (r : Row). r) s t g ∙ same_rows d.code (rows_of b)
+      )

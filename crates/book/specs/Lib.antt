@@ -1,4 +1,6 @@
+pub mod Trades
 pub mod Views
 pub mod Found
 pub mod Booked
+pub mod Entered
 pub mod SettingOff

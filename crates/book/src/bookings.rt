@@ -1,89 +1,90 @@
-// Listings, deals and repricings as a book takes them, from a call or from a record of a day file. The stage is looked at
-// before.
-ghost use Rattle.std.specs.Prelude.{◌≡◌, ◌<◌, length, nat_le};
-ghost use Rattle.ledger.specs.Limits.{most_series};
+// Listings, deals and repricings as a book takes them. The stage is looked at before.
+ghost use Rattle.std.specs.Prelude.{◌≡◌};
+ghost use Rattle.std.proofs.Common.{rules};
 ghost use Rattle.ledger.specs.Checks.{decided};
-ghost use Rattle.ledger.specs.Bookings.{lists, deals, reprices, booking_checks, booked};
-ghost use Rattle.book.specs.Views.{row_from, rows_of, ledger_of};
-ghost use Rattle.book.specs.Booked.{with_row, done_if};
+ghost use Rattle.ledger.specs.Bookings.{lists, deals, reprices};
+ghost use Rattle.ledger.specs.Calls.{listing, dealing, repricing};
+ghost use Rattle.book.specs.Views.{row_from, ledger_of};
+ghost use Rattle.book.specs.Booked.{push_checks, push_left};
 
+use super::entry::Entry;
 use super::state::{Book, Series};
 use ledger::deal::Deal;
+use ledger::fields::Checked;
 use ledger::limits::series_full;
 use ledger::listing::Listing;
 use ledger::repricing::Repricing;
 use sharing::refusal::Refusal;
 
 impl Book {
-    // Whether the book takes no more series.
-    fn is_full(&self) -> bool
-        ensures tells { result ≡ nat_le most_series (length (rows_of self.now)) }
-        ensures counts { result ≡ nat_le most_series self.now.count }
+    // Puts a series after the last, unless the book takes no more.
+    fn push(&mut self, series: Series) -> Result<(), Refusal>
+        ensures answers { result ≡ decided (push_checks (ledger_of self.old)) tt }
+        ensures pushes { ledger_of self.new ≡ push_left (row_from series) result (ledger_of self.old) }
     {
-        series_full(self.count)
-    }
-
-    // Puts a series after the last.
-    fn push(&mut self, series: Series)
-        requires { self.old.count < most_series }
-        ensures { ledger_of self.new ≡ with_row (ledger_of self.old) (row_from series) }
-    {
-        self.series[self.count] = series;
-        self.count += 1;
-    }
-
-    // A series is listed once, and a book holds at most 48.
-    pub(crate) fn book_listing(&mut self, listing: &Listing) -> Result<(), Refusal>
-        ensures answers { result ≡ decided (booking_checks (ledger_of self.old) (lists listing.now)) tt }
-        ensures books { ledger_of self.new ≡ done_if result (booked (ledger_of self.old) (lists listing.now)) (ledger_of self.old) }
-    {
-        if listing.outside_limits() {
-            return Err(Refusal::FieldOutsideLimits);
-        }
-        if let Some(_) = self.find(listing.code) {
-            return Err(Refusal::ListedAlready);
-        }
-        if self.is_full() {
+        if series_full(self.count) {
             return Err(Refusal::BookFull);
         }
-        self.push(Series::listed(listing));
+        self.series[self.count] = series;
+        self.count += 1;
         Ok(())
     }
+}
 
-    // A deal moves the position of its seat in its series.
-    pub(crate) fn book_deal(&mut self, deal: &Deal) -> Result<(), Refusal>
-        ensures answers { result ≡ decided (booking_checks (ledger_of self.old) (deals deal.now)) tt }
-        ensures books { ledger_of self.new ≡ done_if result (booked (ledger_of self.old) (deals deal.now)) (ledger_of self.old) }
-    {
-        if deal.outside_limits() {
-            return Err(Refusal::FieldOutsideLimits);
+// A series is listed once, and a book holds at most 48.
+impl Entry for Listing {
+    ghost booking = { lists };
+
+    ghost call = { listing };
+
+    ghost called = { Prim.search rules };
+
+    fn enter(&self, book: &mut Book) -> Result<(), Refusal> {
+        let listing = Checked::new(*self)?;
+        if book.find(self.code).is_some() {
+            return Err(Refusal::ListedAlready);
         }
-        if self.no_such_seat(deal.seat) {
-            return Err(Refusal::NoSuchSeat);
-        }
-        let Some(place) = self.find(deal.code) else {
-            return Err(Refusal::NotListed);
-        };
-        let mut series = self.series[place];
-        series.deal(deal)?;
-        self.series[place] = series;
-        Ok(())
+        let series = Series::listed(&listing);
+        book.push(series)
     }
+}
 
-    // A repricing puts another price and risk parameter in force; positions stay.
-    pub(crate) fn book_repricing(&mut self, repricing: &Repricing) -> Result<(), Refusal>
-        ensures answers { result ≡ decided (booking_checks (ledger_of self.old) (reprices repricing.now)) tt }
-        ensures books { ledger_of self.new ≡ done_if result (booked (ledger_of self.old) (reprices repricing.now)) (ledger_of self.old) }
-    {
-        if repricing.outside_limits() {
-            return Err(Refusal::FieldOutsideLimits);
-        }
-        let Some(place) = self.find(repricing.code) else {
+// A deal moves the position of its seat in its series.
+impl Entry for Deal {
+    ghost booking = { deals };
+
+    ghost call = { dealing };
+
+    ghost called = { Prim.search rules };
+
+    fn enter(&self, book: &mut Book) -> Result<(), Refusal> {
+        let deal = Checked::new(*self)?;
+        let seat = book.seat(self.seat)?;
+        let Some(place) = book.find(self.code) else {
             return Err(Refusal::NotListed);
         };
-        let mut series = self.series[place];
-        series.reprice(repricing.price, repricing.risk);
-        self.series[place] = series;
+        // The array is lent first: an element lent straight out of a book gets no proof.
+        let series = &mut book.series;
+        series[place].deal(seat, &deal)
+    }
+}
+
+// A repricing puts another price and risk parameter in force; positions stay.
+impl Entry for Repricing {
+    ghost booking = { reprices };
+
+    ghost call = { repricing };
+
+    ghost called = { Prim.search rules };
+
+    fn enter(&self, book: &mut Book) -> Result<(), Refusal> {
+        let repricing = Checked::new(*self)?;
+        let Some(place) = book.find(self.code) else {
+            return Err(Refusal::NotListed);
+        };
+        // The array is lent first, as for a deal.
+        let series = &mut book.series;
+        series[place].reprice(&repricing);
         Ok(())
     }
 }

@@ -8,6 +8,7 @@ ghost use Rattle.ledger.specs.Calls.{listing, dealing, repricing, open_checks, p
 ghost use Rattle.ledger.specs.Runs.{Turned};
 ghost use Rattle.book.specs.Views.{ledger_of};
 
+use super::entry::Entry;
 use super::state::Book;
 use ledger::deal::Deal;
 use ledger::listing::Listing;
@@ -26,13 +27,21 @@ impl Book {
         }
     }
 
+    // Books an entry in stage open. Any run that the book has gone through goes on with the call that books it.
+    fn book<E: Entry>(&mut self, entry: &E) -> Result<(), Refusal>
+        ensures answers { result ≡ decided (open_checks (ledger_of self.old) (E.booking entry.now)) tt }
+        ensures turned { Turned (ledger_of self.old) (E.call entry.now) (plain_answer result) (ledger_of self.new) }
+    {
+        self.in_stage_open()?;
+        entry.enter(self)
+    }
+
     // Lists a series.
     pub fn listing(&mut self, series: Listing) -> Result<(), Refusal>
         ensures answers { result ≡ decided (open_checks (ledger_of self.old) (lists series)) tt }
         ensures turned { Turned (ledger_of self.old) (listing series) (plain_answer result) (ledger_of self.new) }
     {
-        self.in_stage_open()?;
-        self.book_listing(&series)
+        self.book(&series)
     }
 
     // Books a member's deal in a series.
@@ -40,8 +49,7 @@ impl Book {
         ensures answers { result ≡ decided (open_checks (ledger_of self.old) (deals deal)) tt }
         ensures turned { Turned (ledger_of self.old) (dealing deal) (plain_answer result) (ledger_of self.new) }
     {
-        self.in_stage_open()?;
-        self.book_deal(&deal)
+        self.book(&deal)
     }
 
     // Sets a new clearing price and risk parameter of a series.
@@ -49,7 +57,6 @@ impl Book {
         ensures answers { result ≡ decided (open_checks (ledger_of self.old) (reprices new)) tt }
         ensures turned { Turned (ledger_of self.old) (repricing new) (plain_answer result) (ledger_of self.new) }
     {
-        self.in_stage_open()?;
-        self.book_repricing(&new)
+        self.book(&new)
     }
 }

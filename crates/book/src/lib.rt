@@ -3,10 +3,13 @@
 
 mod bookings;
 mod calls;
+mod entry;
 mod lookup;
 mod position;
 mod questions;
+mod seat;
 mod series;
 mod set_off;
 mod stages;
 pub mod state;
+mod trade;

@@ -1,18 +1,17 @@
-// Seats and series by their numbers.
-ghost use Rattle.std.specs.Prelude.{◌≡◌, is_some};
-ghost use Rattle.ledger.specs.Limits.{outside};
+// Series by their codes.
+ghost use Rattle.std.specs.Prelude.{◌≡◌, is_some, take};
 ghost use Rattle.ledger.specs.Ledger.{is_listed};
 ghost use Rattle.book.specs.Views.{ledger_of};
 ghost use Rattle.book.specs.Found.{Found};
 
-use super::state::Book;
+use super::state::{Book, Series};
 
 impl Book {
-    // Whether no member sits there: members have the seats from 1 on.
-    pub(crate) fn no_such_seat(&self, seat: u16) -> bool
-        ensures { result ≡ outside 1 self.now.members seat }
+    // The listed series, in listing order.
+    fn listed(&self) -> &[Series]
+        ensures { result.now ≡ take self.now.count self.now.series }
     {
-        seat < 1 || seat > self.members
+        &self.series[..self.count]
     }
 
     // Where the series of a code stands, if it is listed.
@@ -20,11 +19,6 @@ impl Book {
         ensures listed { is_some result ≡ is_listed (ledger_of self.now) code }
         ensures found { Found self.now code result }
     {
-        for place in 0..self.count {
-            if self.series[place].code == code {
-                return Some(place);
-            }
-        }
-        None
+        self.listed().iter().position(|s| s.code == code)
     }
 }

@@ -14,11 +14,12 @@ use sharing::refusal::Refusal;
 
 impl Book {
     // Writes a line for each member of the book, in seat order. Further lines stay as they are.
+    #[tactic(auto, using(crate::proofs::Lines::front_written))]
     fn write_members(&self, margins: &[Margin; 8], lines: &mut [SetOffLine])
         requires { self.now.members ≤ length lines.old }
         ensures { lines.new ≡ over_lines self.now.members (line_of margins.now) lines.old }
     {
-        write_lines(lines, margins, self.members);
+        write_lines(lines, &margins[..usize::from(self.members)]);
     }
 
     // The net volume in MWh and the net cost in grosze of a seat in the series of a code.
@@ -26,9 +27,7 @@ impl Book {
         ensures answers { result ≡ decided (position_checks (ledger_of self.now) seat code) (position_figures (ledger_of self.now) seat code) }
         ensures turned { Turned (ledger_of self.now) (position seat code) (position_answer result) (ledger_of self.now) }
     {
-        if self.no_such_seat(seat) {
-            return Err(Refusal::NoSuchSeat);
-        }
+        let seat = self.seat(seat)?;
         let Some(place) = self.find(code) else {
             return Err(Refusal::NotListed);
         };

@@ -1,94 +1,88 @@
 // A series, and what a booking makes of it.
-ghost use Rattle.std.specs.Prelude.{◌≡◌, ◌≤◌, false, [], ◌∷◌, Some};
-ghost use Rattle.sharing.specs.declared.refusal.Refusal.TheVariants.{PositionLimits};
-ghost use Rattle.ledger.specs.Limits.{most_members, most_price, most_risk};
-ghost use Rattle.ledger.specs.Numbers.{market_numbered};
+ghost use Rattle.std.specs.Prelude.{◌≡◌};
 ghost use Rattle.ledger.specs.Checks.{decided};
 ghost use Rattle.ledger.specs.Ledger.{net_of};
-ghost use Rattle.ledger.specs.Bookings.{wrong_listing, wrong_deal, listed_row, dealt_net, dealt_row, past_limits};
-ghost use Rattle.ledger.specs.History.{Between};
+ghost use Rattle.ledger.specs.Bookings.{listed_row, volume_dealt, cost_dealt, repriced_row};
 ghost use Rattle.book.specs.Views.{net_from, row_from};
-ghost use Rattle.book.specs.Booked.{with_net, priced_row, kept_in, seen, done_if};
+ghost use Rattle.book.specs.Booked.{with_net, deal_checks, deal_left};
 
+use super::seat::Seat;
 use super::state::{Position, Series};
+use super::trade::{Trade, signed};
 use ledger::deal::Deal;
+use ledger::fields::Checked;
 use ledger::listing::Listing;
-use ledger::market::Market;
+use ledger::repricing::Repricing;
 use sharing::refusal::Refusal;
-
-// The market of a listing whose fields are within their limits.
-fn market_of(listing: &Listing) -> Market
-    requires { wrong_listing listing.now ≡ false }
-    ensures { Some result ≡ market_numbered listing.now.market }
-{
-    match Market::numbered(listing.market) {
-        Some(market) => market,
-        None => unreachable(),
-    }
-}
 
 impl Series {
     // A series as it is listed: nobody holds anything in it.
-    pub(crate) fn listed(listing: &Listing) -> Self
-        requires { wrong_listing listing.now ≡ false }
+    pub(crate) fn listed(listing: &Checked<Listing>) -> Self
         ensures { row_from result ≡ listed_row listing.now }
     {
+        let Listing {
+            code,
+            size,
+            price,
+            risk,
+            ..
+        } = **listing;
         Series {
-            code: listing.code,
-            market: market_of(listing),
-            size: listing.size,
-            price: listing.price,
-            risk: listing.risk,
+            code,
+            market: listing.market(),
+            size,
+            price,
+            risk,
             positions: [Position::flat(); 8],
         }
     }
 
-    // The position of a seat, counted from 1.
-    pub(crate) fn position_of(&self, seat: u16) -> Position
-        requires { (1 ≤ seat) × (seat ≤ most_members) }
+    pub(crate) fn position_of(&self, seat: Seat) -> Position
         ensures { net_from result ≡ net_of (row_from self.now) seat }
     {
-        self.positions[seat as usize - 1]
+        self.positions[seat.place()]
     }
 
-    fn set_position(&mut self, seat: u16, position: Position)
-        requires { (1 ≤ seat) × (seat ≤ most_members) }
+    fn set_position(&mut self, seat: Seat, position: Position)
         ensures { row_from self.new ≡ with_net seat (net_from position) (row_from self.old) }
     {
-        self.positions[seat as usize - 1] = position;
+        self.positions[seat.place()] = position;
     }
 
-    // The position of the deal's seat after it, unless that is outside its limits. The test of a field is open to the
-    // prover here, so that a deal at another price would be refused for its figures.
-    #[tactic(auto, unfolding(ledger::specs::Limits::field_outside))]
-    fn position_after(&self, deal: &Deal) -> Option<Position>
-        requires fields { wrong_deal deal.now ≡ false }
-        requires seat { (1 ≤ deal.now.seat) × (deal.now.seat ≤ most_members) }
-        ensures { seen result ≡ kept_in (dealt_net self.now.size deal.now (net_of (row_from self.now) deal.now.seat)) }
+    // What a deal in the series adds to the position of its seat: lots × size, and that × its own price. The tests of
+    // fields are open to the prover here, for the limits of lots and price.
+    #[tactic(auto, using(crate::proofs::Trades::trade_limits), unfolding(ledger::specs::Limits::field_outside))]
+    fn trade(&self, deal: &Checked<Deal>) -> Trade
+        ensures volume { result.volume ≡ volume_dealt self.now.size deal.now }
+        ensures cost { result.cost ≡ cost_dealt self.now.size deal.now }
     {
-        let position = self.position_of(deal.seat);
-        position.dealt(self.size, deal)
+        let side = deal.side();
+        let volume = u64::from(deal.lots) * u64::from(self.size);
+        let cost = volume * u64::from(deal.price);
+        Trade {
+            volume: signed(side, volume),
+            cost: signed(side, cost),
+        }
     }
 
-    // Books a deal into the position of its seat, unless that would leave its limits.
-    pub(crate) fn deal(&mut self, deal: &Deal) -> Result<(), Refusal>
-        requires fields { wrong_deal deal.now ≡ false }
-        requires seat { (1 ≤ deal.now.seat) × (deal.now.seat ≤ most_members) }
-        ensures answers { result ≡ decided ((past_limits (Some (row_from self.old)) deal.now, PositionLimits) ∷ []) tt }
-        ensures deals { row_from self.new ≡ done_if result (dealt_row deal.now (row_from self.old)) (row_from self.old) }
+    // Books a deal into the position of a seat, unless that would leave its limits.
+    pub(crate) fn deal(&mut self, seat: Seat, deal: &Checked<Deal>) -> Result<(), Refusal>
+        ensures answers { result ≡ decided (deal_checks seat deal.now (row_from self.old)) tt }
+        ensures deals { row_from self.new ≡ deal_left seat deal.now result (row_from self.old) }
     {
-        let Some(position) = self.position_after(deal) else {
+        let Some(position) = self.position_of(seat).after(&self.trade(deal)) else {
             return Err(Refusal::PositionLimits);
         };
-        self.set_position(deal.seat, position);
+        self.set_position(seat, position);
         Ok(())
     }
 
-    // A new clearing price and a new risk parameter; positions stay.
-    pub(crate) fn reprice(&mut self, price: u32, risk: u32)
-        requires { (Between 1 most_price price) × (Between 1 most_risk risk) }
-        ensures { row_from self.new ≡ priced_row price risk (row_from self.old) }
+    // A new clearing price and a new risk parameter; positions stay. The tests of fields are open for their limits.
+    #[tactic(auto, unfolding(ledger::specs::Limits::field_outside))]
+    pub(crate) fn reprice(&mut self, repricing: &Checked<Repricing>)
+        ensures { row_from self.new ≡ repriced_row repricing.now (row_from self.old) }
     {
+        let Repricing { price, risk, .. } = **repricing;
         self.price = price;
         self.risk = risk;
     }

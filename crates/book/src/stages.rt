@@ -9,7 +9,7 @@ ghost use Rattle.ledger.specs.Runs.{Ran, Turned};
 ghost use Rattle.book.specs.Views.{ledger_of};
 
 use super::state::{Book, Position, Series};
-use ledger::limits::members_outside;
+use ledger::limits::{MOST_SERIES, members_outside};
 use ledger::market::Market;
 use ledger::stage::{Event, Stage};
 use sharing::refusal::Refusal;
@@ -38,7 +38,7 @@ impl Book {
             stage: Stage::Open,
             members,
             count: 0,
-            series: [Series::unlisted(); 48],
+            series: [Series::unlisted(); MOST_SERIES],
         }
     }
 

@@ -3,11 +3,12 @@ ghost use Rattle.std.specs.Prelude.{◌≡◌, ◌≤◌, length, unsigned_abs};
 ghost use Rattle.ledger.specs.Limits.{most_members, most_series, most_code, most_size, most_price, most_risk, most_volume, most_cost};
 ghost use Rattle.ledger.specs.History.{Between};
 
+use ledger::limits::MOST_SERIES;
 use ledger::market::Market;
 use ledger::stage::Stage;
 
 // A member's position in a series: net volume in MWh and net cost in grosze.
-#[derive(Clone, Copy)]
+#[derive(Clone, Copy, PartialEq, Eq, Debug)]
 pub struct Position {
     pub(crate) volume: i64,
     pub(crate) cost: i64,
@@ -15,7 +16,7 @@ pub struct Position {
 }
 
 // A series, with the position of each of the eight seats.
-#[derive(Clone, Copy)]
+#[derive(Clone, Copy, PartialEq, Eq, Debug)]
 pub struct Series {
     pub(crate) code: u32,
     pub(crate) market: Market,
@@ -30,17 +31,18 @@ pub struct Series {
     ghost sized: { Between 1 most_size size },
     ghost priced: { Between 1 most_price price },
     ghost risky: { Between 1 most_risk risk },
-    ghost seats: { length positions ≡ 8 },
+    ghost seats: { length positions ≡ most_members },
 }
 
-// A book of one group. The first `count` series are listed, in listing order.
+// A book of one group. The first `count` series are listed, in listing order: memory is fixed and a book is copied, so they
+// stand in an array. What stands after them is no part of the book, so that books are not compared field by field.
 #[derive(Clone, Copy)]
 pub struct Book {
     pub(crate) stage: Stage,
     pub(crate) members: u16,
     pub(crate) count: usize,
-    pub(crate) series: [Series; 48],
+    pub(crate) series: [Series; MOST_SERIES],
     ghost peopled: { Between 1 most_members members },
     ghost few: { count ≤ most_series },
-    ghost room: { length series ≡ 48 },
+    ghost room: { length series ≡ most_series },
 }

@@ -5,14 +5,19 @@ use Rattle.sharing.specs.declared.refusal.Refusal.TheVariants.{CannotShare}
 use Rattle.sharing.specs.Lists.{total, made}
 use Rattle.rules.specs.Division.{Meaning, undividable}
 use Rattle.checklist.specs.declared.division.Division.{Division}
+use Rattle.checklist.specs.declared.division.Part.{Part}
 
 -- a call is a need less its share
 abbrev pub calls : List ℕ → List ℕ → List ℕ
 calls needs parts = made 8 (λ k. slice_index needs k - slice_index parts k)
 
+-- by seat: a need, its share and its call
+abbrev pub parts_of : List ℕ → List ℕ → List Part
+parts_of needs shares = made 8 (λ k. record { need = slice_index needs k; share = slice_index shares k; call = slice_index needs k - slice_index shares k })
+
 -- the shares and calls of a rule, and their sums
 abbrev pub division_of : List ℕ → List ℕ → Division
-division_of needs parts = record { shares = parts; calls = calls needs parts; needed = total needs; shared = total parts; called = total (calls needs parts) }
+division_of needs shares = record { parts = parts_of needs shares; needed = total needs; shared = total shares; called = total (calls needs shares) }
 
 abbrev pub outcome : Meaning → List ℕ → ℕ → Result Division Refusal
 outcome meaning needs amount = cond (undividable needs amount) (Err CannotShare) (Ok (division_of needs (meaning needs amount)))

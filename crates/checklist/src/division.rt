@@ -1,59 +1,78 @@
 // One surplus divided by a rule, with the calls that remain.
-ghost use Rattle.std.specs.Prelude.{◌≡◌, ℕ, ◌+◌, ◌≤◌, ◌&&◌, ◌==◌, slice_index};
+ghost use Rattle.std.specs.Prelude.{◌≡◌, ℕ, ◌+◌, ◌-◌, map, ◌≤◌, ◌&&◌, ◌==◌, slice_index};
 ghost use Rattle.sharing.specs.Lists.{total};
 ghost use Rattle.rules.specs.Division.{Fair};
-ghost use Rattle.checklist.specs.Dividing.{calls, division_of, outcome, both, AddsUp, SameTotals};
+ghost use Rattle.sharing.specs.Sharing.{most_weight};
+ghost use Rattle.checklist.specs.Dividing.{parts_of, division_of, outcome, both, AddsUp, SameTotals};
 
 use rules::rule::DivisionRule;
 use sharing::refusal::Refusal;
 use sharing::totals::total_within;
+use std::array;
 
-// What a rule makes of a group's needs: shares and calls in zloty by seat, and the sums.
-#[derive(Clone, Copy)]
+// One seat's part of a division, in zloty: a call is a need less its share.
+#[derive(Clone, Copy, PartialEq, Eq, Debug)]
+pub struct Part {
+    pub need: u64,
+    pub share: u64,
+    pub call: u64,
+}
+
+impl Part {
+    fn new(need: u64, share: u64) -> Self
+        requires { share ≤ need }
+        ensures { result ≡ record { need = need; share = share; call = need - share } }
+    {
+        Part {
+            need,
+            share,
+            call: need - share,
+        }
+    }
+}
+
+// What a rule makes of a group's needs: the parts by seat, and their sums.
+#[derive(Clone, Copy, PartialEq, Eq, Debug)]
 pub struct Division {
-    pub shares: [u64; 8],
-    pub calls: [u64; 8],
+    pub parts: [Part; 8],
     pub needed: u64,
     pub shared: u64,
     pub called: u64,
 }
 
-// A call is a need less its share.
-fn calls_of(needs: &[u64; 8], shares: &[u64; 8]) -> [u64; 8]
+fn parts_of(needs: &[u64; 8], shares: &[u64; 8]) -> [Part; 8]
     requires { (k : ℕ) → slice_index shares.now k ≤ slice_index needs.now k }
-    ensures { result ≡ calls needs.now shares.now }
+    ensures { result ≡ parts_of needs.now shares.now }
 {
-    let mut calls: [u64; 8] = [0; 8];
-    for k in 0..8 {
-        calls[k] = needs[k] - shares[k];
-    }
-    calls
+    array::from_fn(|place| Part::new(needs[place], shares[place]))
+}
+
+fn calls_of(parts: &[Part; 8]) -> [u64; 8]
+    ensures { result ≡ map (λ p. p.call) parts.now }
+{
+    parts.map(|part| part.call)
 }
 
 fn sum_of(numbers: &[u64; 8]) -> u64
-    requires { total numbers.now ≤ 3000000000 }
+    requires { total numbers.now ≤ most_weight }
     ensures { result ≡ total numbers.now }
 {
-    match total_within(numbers) {
-        Some(sum) => sum,
-        None => unreachable(),
-    }
+    total_within(numbers).unwrap()
 }
 
 // The division of these shares, with the calls that they leave.
 fn division_from(needs: &[u64; 8], shares: [u64; 8], amount: u64) -> Division
-    requires low { total needs.now ≤ 3000000000 }
+    requires low { total needs.now ≤ most_weight }
     requires fair { Fair needs.now amount shares }
     ensures is { result ≡ division_of needs.now shares }
     ensures adds { (result.shared ≡ amount) × (result.called + amount ≡ total needs.now) }
 {
-    let calls = calls_of(needs, &shares);
+    let parts = parts_of(needs, &shares);
     Division {
-        shares,
-        calls,
+        parts,
         needed: sum_of(needs),
         shared: sum_of(&shares),
-        called: sum_of(&calls),
+        called: sum_of(&calls_of(&parts)),
     }
 }
 
@@ -91,5 +110,5 @@ pub fn divide_by_both<A: DivisionRule, B: DivisionRule>(
 pub fn same_totals(first: &Division, second: &Division) -> bool
     ensures { result ≡ (first.now.shared == second.now.shared && first.now.called == second.now.called) }
 {
-    first.shared == second.shared && first.called == second.called
+    (first.shared, first.called) == (second.shared, second.called)
 }

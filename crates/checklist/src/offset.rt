@@ -14,7 +14,7 @@ const NO_LINE: SetOffLine = SetOffLine {
 };
 
 // The margins of all lines together, in units.
-#[derive(Clone, Copy)]
+#[derive(Clone, Copy, PartialEq, Eq, Debug)]
 pub struct Sums {
     pub before: u128,
     pub after: u128,
@@ -24,7 +24,8 @@ pub fn sums_of(lines: &[SetOffLine; 3]) -> Sums
     ensures before { result.before ≡ total (map (λ x. x.before) lines.now) }
     ensures after { result.after ≡ total (map (λ x. x.after) lines.now) }
 {
-    let before = lines[0].before as u128 + lines[1].before as u128 + lines[2].before as u128;
-    let after = lines[0].after as u128 + lines[1].after as u128 + lines[2].after as u128;
-    Sums { before, after }
+    Sums {
+        before: lines.iter().map(|line| u128::from(line.before)).sum(),
+        after: lines.iter().map(|line| u128::from(line.after)).sum(),
+    }
 }

@@ -1,33 +1,41 @@
 // How the checklist prints its tables.
 use super::division::Division;
-use std::io;
+use std::fmt;
 
 // The needs, shares and calls of the seats in zloty, with their sums.
-pub(crate) fn print_division(
-    rt: &HostRuntime,
-    needs: &[u64; 8],
-    division: &Division,
-) -> io::Result<()> {
-    println!(rt; "  seat        need       share        call")?;
-    for k in 0..8 {
-        let seat = k + 1;
-        let need = needs[k];
-        let share = division.shares[k];
-        let call = division.calls[k];
-        println!(rt; "{seat:>6}{need:>12}{share:>12}{call:>12}")?;
+#[derive(Clone, Copy)]
+pub(crate) struct Table<'a>(pub(crate) &'a Division);
+
+impl fmt::Display for Table<'_> {
+    fn fmt<W: fmt::Write>(&self, f: &mut fmt::Formatter<W>) -> fmt::Result {
+        let Division {
+            parts,
+            needed,
+            shared,
+            called,
+        } = self.0;
+        writeln!(f, "  seat        need       share        call")?;
+        for (place, part) in parts.iter().enumerate() {
+            let seat = place + 1;
+            let need = part.need;
+            let share = part.share;
+            let call = part.call;
+            writeln!(f, "{seat:>6}{need:>12}{share:>12}{call:>12}")?;
+        }
+        writeln!(f, "   sum{needed:>12}{shared:>12}{called:>12}")
     }
-    let needed = division.needed;
-    let shared = division.shared;
-    let called = division.called;
-    println!(rt; "   sum{needed:>12}{shared:>12}{called:>12}")?;
-    println!(rt; "")
 }
 
 // The order in which the seats take their turns.
-pub(crate) fn print_order(rt: &HostRuntime, seats: &[u8; 8]) -> io::Result<()> {
-    print!(rt; "By the sequence")?;
-    for seat in seats {
-        print!(rt; " {seat}")?;
+#[derive(Clone, Copy)]
+pub(crate) struct Order<'a>(pub(crate) &'a [u8; 8]);
+
+impl fmt::Display for Order<'_> {
+    fn fmt<W: fmt::Write>(&self, f: &mut fmt::Formatter<W>) -> fmt::Result {
+        write!(f, "By the sequence")?;
+        for seat in self.0 {
+            write!(f, " {seat}")?;
+        }
+        Ok(())
     }
-    println!(rt; "")
 }

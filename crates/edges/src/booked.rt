@@ -1,4 +1,5 @@
 // The calls of a book: their limits at both edges, the order of their causes, and both stages.
+use super::samples::{DEAL, LISTING, one_series};
 use book::state::Book;
 use ledger::deal::Deal;
 use ledger::listing::Listing;
@@ -7,36 +8,11 @@ use ledger::stage::Event;
 use sharing::refusal::Refusal;
 use std::test::Fail;
 
-const LISTING: Listing = Listing {
-    code: 101,
-    market: 1,
-    size: 10,
-    price: 20_000,
-    risk: 1_000,
-};
-
-// 600 MWh for 10,800,000 grosze
-const DEAL: Deal = Deal {
-    code: 101,
-    seat: 1,
-    side: 1,
-    lots: 60,
-    price: 18_000,
-};
-
 const REPRICING: Repricing = Repricing {
     code: 101,
     price: 21_000,
     risk: 1_200,
 };
-
-// A book of three members that holds one series, of lots of that size.
-fn one_series(size: u16) -> Result<Book, Refusal> {
-    let mut book = Book::new();
-    book.opening(3)?;
-    book.listing(Listing { size, ..LISTING })?;
-    Ok(book)
-}
 
 #[test]
 fn never_opened(rt: HostRuntime) {

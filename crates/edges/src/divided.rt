@@ -69,7 +69,7 @@ fn not_a_full_order(rt: HostRuntime) -> Result<(), Fail> {
         Err(Refusal::NotAFullOrder)
     );
     assert_eq!(rt; sequence.reorder(&[]), Err(Refusal::NotAFullOrder));
-    assert_eq!(rt; Refusal::NotAFullOrder.number(), 13);
+    assert_eq!(rt; u8::from(Refusal::NotAFullOrder), 13);
     assert_eq!(rt; sequence.seats(), [8, 1, 2, 3, 4, 5, 6, 7]);
     Ok(())
 }

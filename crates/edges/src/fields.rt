@@ -1,6 +1,8 @@
 // The fields of bookings, positions and files at both of their limits and one past each; and the numbers of refusals.
+use super::samples::{self, LISTING};
 use ledger::deal::Deal;
 use ledger::fault::{LoadFault, RefusalNumbers};
+use ledger::fields::{Checked, Fields};
 use ledger::limits::{file_length_outside, members_outside, position_outside, series_full};
 use ledger::listing::Listing;
 use ledger::market::Market;
@@ -10,20 +12,10 @@ use ledger::side::Side;
 use sharing::refusal::Refusal;
 use std::test::Fail;
 
-const LISTING: Listing = Listing {
-    code: 101,
-    market: 1,
-    size: 10,
-    price: 20_000,
-    risk: 1_000,
-};
-
+// The seat, here 0, is no matter of these limits.
 const DEAL: Deal = Deal {
-    code: 101,
     seat: 0,
-    side: 1,
-    lots: 60,
-    price: 18_000,
+    ..samples::DEAL
 };
 
 #[test]
@@ -45,7 +37,6 @@ fn listings(rt: HostRuntime) {
     }
 }
 
-// The seat, here 0, is no matter of these limits.
 #[test]
 fn deals(rt: HostRuntime) {
     for (side, outside) in [(0, true), (1, false), (2, false), (3, true)] {
@@ -114,40 +105,49 @@ fn four(refusal: u8, section: u8, place: u16, cause: u8) -> RefusalNumbers {
 #[test]
 fn numbers(rt: HostRuntime) {
     let refused = LoadFault::Refused(Section::Marks, 4, Refusal::NotListed);
-    assert_eq!(rt; refused.numbers(), four(16, 3, 4, 3));
+    assert_eq!(rt; RefusalNumbers::from(refused), four(16, 3, 4, 3));
     assert_eq!(rt;
-        LoadFault::OutsideLimits(Section::Deals, 15).numbers(),
+        RefusalNumbers::from(LoadFault::OutsideLimits(Section::Deals, 15)),
         four(15, 2, 15, 5)
     );
     assert_eq!(rt;
-        LoadFault::BrokenEntry(Section::Series).numbers(),
+        RefusalNumbers::from(LoadFault::BrokenEntry(Section::Series)),
         four(14, 1, 0, 0)
     );
-    assert_eq!(rt; LoadFault::FileLength.numbers(), four(14, 0, 0, 0));
     assert_eq!(rt;
-        RefusalNumbers::of_load(Err(LoadFault::WrongStage)),
+        RefusalNumbers::from(LoadFault::FileLength),
+        four(14, 0, 0, 0)
+    );
+    assert_eq!(rt;
+        RefusalNumbers::from(Err(LoadFault::WrongStage)),
         four(8, 0, 0, 0)
     );
-    assert_eq!(rt; RefusalNumbers::of_load(Ok(())), four(0, 0, 0, 0));
     assert_eq!(rt;
-        RefusalNumbers::plain(Refusal::TotalsTooLarge),
+        RefusalNumbers::from(Ok::<(), LoadFault>(())),
+        four(0, 0, 0, 0)
+    );
+    assert_eq!(rt;
+        RefusalNumbers::from(Refusal::TotalsTooLarge),
         four(10, 0, 0, 0)
     );
 }
 
 #[test]
-fn markets_and_sides(rt: HostRuntime) -> Result<(), Fail> {
+fn markets_and_sides(rt: HostRuntime) {
     for (number, known) in [(0, false), (1, true), (3, true), (4, false)] {
-        assert_eq!(rt; Market::numbered(number).is_some(), known);
+        assert_eq!(rt; Market::try_from(number).is_ok(), known);
     }
     for (number, known) in [(0, false), (1, true), (2, true), (3, false)] {
-        assert_eq!(rt; Side::numbered(number).is_some(), known);
+        assert_eq!(rt; Side::try_from(number).is_ok(), known);
     }
-    match (Market::numbered(2), Side::numbered(2)) {
-        (Some(Market::Gas), Some(Side::Sale)) => Ok(()),
-        _ => {
-            assert!(rt; false);
-            Ok(())
-        },
-    }
+    assert_eq!(rt; Market::try_from(2), Ok(Market::Gas));
+    assert_eq!(rt; Side::try_from(2), Ok(Side::Sale));
+}
+
+#[test]
+fn checked_fields(rt: HostRuntime) -> Result<(), Fail> {
+    assert_eq!(rt; Checked::new(LISTING)?.market(), Market::Electricity);
+    assert_eq!(rt; Checked::new(Deal { side: 2, ..DEAL })?.side(), Side::Sale);
+    assert!(rt; Checked::new(Deal { side: 3, ..DEAL }) == Err(Refusal::FieldOutsideLimits));
+    Ok(())
 }

@@ -11,4 +11,6 @@ mod fields;
 #[cfg(test)]
 mod offset;
 #[cfg(test)]
+mod samples;
+#[cfg(test)]
 mod shared;

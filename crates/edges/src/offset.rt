@@ -1,12 +1,11 @@
 // The set-off question on small groups. The rate of the series is price × risk parameter, 20,000 × 1,000, so that the margin
 // before set-off is 100,000,000 units an MWh, of which a member on the minor side keeps a fifth.
+use super::samples::{DEAL, one_series};
 use book::state::Book;
 use ledger::deal::Deal;
 use ledger::lines::SetOffLine;
-use ledger::listing::Listing;
 use ledger::stage::Event;
 use sharing::refusal::Refusal;
-use std::process::Abort;
 use std::test::Fail;
 
 const UNWRITTEN: SetOffLine = SetOffLine {
@@ -17,31 +16,24 @@ const UNWRITTEN: SetOffLine = SetOffLine {
 
 // A book of three members with one series of 10 MWh a lot, and with these deals in it: seat, side and lots.
 fn group(deals: &[(u16, u16, u32)]) -> Result<Book, Refusal> {
-    let mut book = Book::new();
-    book.opening(3)?;
-    book.listing(Listing {
-        code: 101,
-        market: 1,
-        size: 10,
-        price: 20_000,
-        risk: 1_000,
-    })?;
-    for (seat, side, lots) in deals {
+    let mut book = one_series(10)?;
+    for &(seat, side, lots) in deals {
         book.deal(Deal {
-            code: 101,
-            seat: *seat,
-            side: *side,
-            lots: *lots,
-            price: 18_000,
+            seat,
+            side,
+            lots,
+            ..DEAL
         })?;
     }
     Ok(book)
 }
 
-fn assert_line(rt: &impl Abort, line: &SetOffLine, seat: u8, before: u64, after: u64) {
-    assert_eq!(rt; line.seat, seat);
-    assert_eq!(rt; line.before, before);
-    assert_eq!(rt; line.after, after);
+fn line(seat: u8, before: u64, after: u64) -> SetOffLine {
+    SetOffLine {
+        seat,
+        before,
+        after,
+    }
 }
 
 // 600, -300 and 200 MWh. Seat 2 is spared four fifths of 30,000,000,000, that is 24,000,000,000, which seats 1 and 3 share
@@ -51,10 +43,10 @@ fn one_seller(rt: HostRuntime) -> Result<(), Fail> {
     let book = group(&[(1, 1, 60), (2, 2, 30), (3, 1, 20)])?;
     let mut lines = [UNWRITTEN; 4];
     assert_eq!(rt; book.set_off(101, &mut lines), Ok(()));
-    assert_line(&rt, &lines[0], 1, 60_000_000_000, 42_000_000_000);
-    assert_line(&rt, &lines[1], 2, 30_000_000_000, 6_000_000_000);
-    assert_line(&rt, &lines[2], 3, 20_000_000_000, 14_000_000_000);
-    assert_line(&rt, &lines[3], 9, 7, 8);
+    assert_eq!(rt; lines[0], line(1, 60_000_000_000, 42_000_000_000));
+    assert_eq!(rt; lines[1], line(2, 30_000_000_000, 6_000_000_000));
+    assert_eq!(rt; lines[2], line(3, 20_000_000_000, 14_000_000_000));
+    assert_eq!(rt; lines[3], UNWRITTEN);
     Ok(())
 }
 
@@ -66,9 +58,9 @@ fn short_group(rt: HostRuntime) -> Result<(), Fail> {
     book.turn(Event::Strike)?;
     let mut lines = [UNWRITTEN; 3];
     assert_eq!(rt; book.set_off(101, &mut lines), Ok(()));
-    assert_line(&rt, &lines[0], 1, 30_000_000_000, 6_000_000_000);
-    assert_line(&rt, &lines[1], 2, 60_000_000_000, 36_000_000_000);
-    assert_line(&rt, &lines[2], 3, 0, 0);
+    assert_eq!(rt; lines[0], line(1, 30_000_000_000, 6_000_000_000));
+    assert_eq!(rt; lines[1], line(2, 60_000_000_000, 36_000_000_000));
+    assert_eq!(rt; lines[2], line(3, 0, 0));
     Ok(())
 }
 
@@ -78,9 +70,9 @@ fn flat_group(rt: HostRuntime) -> Result<(), Fail> {
     let book = group(&[])?;
     let mut lines = [UNWRITTEN; 3];
     assert_eq!(rt; book.set_off(101, &mut lines), Ok(()));
-    assert_line(&rt, &lines[0], 1, 0, 0);
-    assert_line(&rt, &lines[1], 2, 0, 0);
-    assert_line(&rt, &lines[2], 3, 0, 0);
+    assert_eq!(rt; lines[0], line(1, 0, 0));
+    assert_eq!(rt; lines[1], line(2, 0, 0));
+    assert_eq!(rt; lines[2], line(3, 0, 0));
     Ok(())
 }
 
@@ -91,7 +83,7 @@ fn refused_questions(rt: HostRuntime) -> Result<(), Fail> {
     let mut lines = [UNWRITTEN; 2];
     assert_eq!(rt; book.set_off(102, &mut lines), Err(Refusal::NotListed));
     assert_eq!(rt; book.set_off(101, &mut lines), Err(Refusal::TooLittleRoom));
-    assert_line(&rt, &lines[0], 9, 7, 8);
-    assert_line(&rt, &lines[1], 9, 7, 8);
+    assert_eq!(rt; lines[0], UNWRITTEN);
+    assert_eq!(rt; lines[1], UNWRITTEN);
     Ok(())
 }

@@ -1,21 +1,13 @@
 // The sharing call.
-use sharing::holding::Holding;
-use sharing::need::Need;
+use sharing::claims::{Holding, Need, WeighedClaim};
 use sharing::refusal::Refusal;
 use sharing::sharing::share_out;
+use std::array;
 use std::test::Fail;
 
 // Sixty-five needs of one zloty, of the owners 0 to 64, with a share of 7 from before.
 fn sixty_five() -> [Need; 65] {
-    let mut claims = [Need {
-        seat: 0,
-        zloty: 1,
-        share: 7,
-    }; 65];
-    for i in 0..65u8 {
-        claims[i as usize].seat = i;
-    }
-    claims
+    array::from_fn(|owner| Need::new(owner as u8, 1).with_share(7))
 }
 
 // The running shares of 3 over 2, 1, 2 are 6/5, 9/5 and 15/5, so 1, 1 and 3.
@@ -27,26 +19,15 @@ fn three_over_five(rt: HostRuntime) -> Result<(), Fail> {
     assert_eq!(rt; claims[1].share, 0);
     assert_eq!(rt; claims[2].share, 2);
     assert_eq!(rt; claims[2].seat, 3);
-    assert_eq!(rt; claims[2].mwh, 2);
+    assert_eq!(rt; claims[2].weight, 2);
     Ok(())
 }
 
 #[test]
 fn nothing_to_share_by(rt: HostRuntime) {
-    let mut claims = [
-        Need {
-            seat: 1,
-            zloty: 0,
-            share: 7,
-        },
-        Need {
-            seat: 2,
-            zloty: 0,
-            share: 9,
-        },
-    ];
+    let mut claims = [Need::new(1, 0).with_share(7), Need::new(2, 0).with_share(9)];
     assert_eq!(rt; share_out(&mut claims, 1), Err(Refusal::CannotShare));
-    assert_eq!(rt; Refusal::CannotShare.number(), 11);
+    assert_eq!(rt; u8::from(Refusal::CannotShare), 11);
     assert_eq!(rt; claims[0].share, 7);
     assert_eq!(rt; claims[1].share, 9);
     assert_eq!(rt; share_out(&mut claims, 0), Ok(()));
@@ -77,11 +58,7 @@ fn one_claim(rt: HostRuntime) -> Result<(), Fail> {
 // Weights whose sum would wrap to 0, or to a small number.
 #[test]
 fn largest_weights(rt: HostRuntime) {
-    let mut one = [Need {
-        seat: 1,
-        zloty: u64::MAX,
-        share: 7,
-    }];
+    let mut one = [Need::new(1, u64::MAX).with_share(7)];
     assert_eq!(rt; share_out(&mut one, 1), Err(Refusal::CannotShare));
     assert_eq!(rt; one[0].share, 7);
     let mut wraps = [Need::new(1, u64::MAX), Need::new(2, 1)];
@@ -114,8 +91,8 @@ fn many_claims(rt: HostRuntime) -> Result<(), Fail> {
     let mut claims = sixty_five();
     share_out(&mut claims, 64)?;
     assert_eq!(rt; claims[0].share, 0);
-    for i in 1..65 {
-        assert_eq!(rt; claims[i].share, 1);
+    for claim in &claims[1..] {
+        assert_eq!(rt; claim.share, 1);
     }
     Ok(())
 }
@@ -133,16 +110,8 @@ fn equal_owners_far_apart(rt: HostRuntime) {
 #[test]
 fn equal_owners_of_nothing(rt: HostRuntime) {
     let mut claims = [
-        Holding {
-            seat: 4,
-            mwh: 0,
-            share: 7,
-        },
-        Holding {
-            seat: 4,
-            mwh: 0,
-            share: 8,
-        },
+        Holding::new(4, 0).with_share(7),
+        Holding::new(4, 0).with_share(8),
     ];
     assert_eq!(rt; share_out(&mut claims, 0), Err(Refusal::CannotShare));
     assert_eq!(rt; claims[0].share, 7);

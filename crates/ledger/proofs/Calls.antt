@@ -5,7 +5,7 @@ use Rattle.std.proofs.lemmas.List.{get_or-map}
 use Rattle.std.proofs.lemmas.Int.{ints, clamps}
 use Rattle.std.proofs.lemmas.Bool.{cond-true, cond-false, lt-ltb, le-ltb}
 use Rattle.sharing.specs.Lists.{total, made}
-use Rattle.sharing.proofs.Made.{length_made, getD_made}
+use Rattle.sharing.proofs.Made.{length_made, get_or-made}
 use Rattle.rules.specs.Division.{Meaning, Lawful, Fair}
 use Rattle.ledger.specs.declared.lines.ReportLine.{ReportLine}
 use Rattle.ledger.specs.Sums.{total_ℤ, below_zero}
@@ -21,7 +21,7 @@ use Rattle.ledger.proofs.Rounding.{floor_low, floor_high, short_grows}
 -- One series.
 module _ (n : ℕ) (s : Row) where
   pub volume_at : (k : ℕ) → k < n → get_or (volumes n s) k (pos 0) ≡ (net_at s k).volume
-  volume_at k h = getD_made (λ j. (net_at s j).volume) n k (pos 0) h
+  volume_at k h = get_or-made (λ j. (net_at s j).volume) n k (pos 0) h
 
   all_after : total (margins_after (rate_of s) (volumes n s)) ≡ total (made n (after_of n s))
   all_after = ap (λ j. total (made j (after_of n s))) (length_made (λ j. (net_at s j).volume) n)
@@ -104,7 +104,7 @@ module _ (l : Ledger) where
     fair = lawful (needs l) (amount l) (length_made (need l) 8) fits (omega arith)
 
     pub share_within : (k : ℕ) → k < 8 → share m l k ≤ need l k
-    share_within k h = omega (arith, fair.within k, getD_made (need l) 8 k 0 h)
+    share_within k h = omega (arith, fair.within k, get_or-made (need l) 8 k 0 h)
 
     shares_all : upto l.members (share m l) ≡ amount l
     shares_all =
@@ -115,7 +115,7 @@ module _ (l : Ledger) where
     line_at : (f : ReportLine → ℕ) (k : ℕ) → k < l.members → get_or (map f (made l.members (report_line m l))) k 0 ≡ f (report_line m l k)
     line_at f k h =
         get_or-map f (made l.members (report_line m l)) k (report_line m l k) 0 (omega (arith, length_made (report_line m l) l.members))
-        ∙ ap f (getD_made (report_line m l) l.members k (report_line m l k) h)
+        ∙ ap f (get_or-made (report_line m l) l.members k (report_line m l k) h)
 
     over_lines : (f : ReportLine → ℕ) → total (map f (made l.members (report_line m l))) ≡ upto l.members (λ k. f (report_line m l k))
     over_lines f = ap total (map_made f l.members (report_line m l)) ∙ total_made l.members (λ k. f (report_line m l k))

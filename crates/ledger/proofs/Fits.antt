@@ -5,7 +5,7 @@ use Rattle.std.proofs.lemmas.Int.{ints}
 use Rattle.std.proofs.lemmas.Bool.{cases_lt, cond_both}
 use Rattle.std.proofs.lemmas.Bool.Decides.{nat_tests}
 use Rattle.sharing.specs.Lists.{total}
-use Rattle.sharing.proofs.Made.{length_made, getD_made}
+use Rattle.sharing.proofs.Made.{length_made, get_or-made}
 use Rattle.ledger.specs.Limits.{field_outside}
 use Rattle.ledger.specs.Sums.{total_ℤ, floor_of, above_zero, below_zero}
 use Rattle.ledger.specs.Ledger.{Row, Ledger, net_at}
@@ -47,7 +47,7 @@ module _ (n : ℕ) (few : n ≤ 8) (s : Row) (w : RowWithin s) where
 
   volume_fits : (k : ℕ) → nat_abs (get_or (volumes n s) k (pos 0)) ≤ 2000000
   volume_fits k = ⊎_elim
-      (λ (h : k < n). subst (λ v. nat_abs v ≤ 2000000) (sym (getD_made (λ j. (net_at s j).volume) n k (pos 0) h)) (w.volume k))
+      (λ (h : k < n). subst (λ v. nat_abs v ≤ 2000000) (sym (get_or-made (λ j. (net_at s j).volume) n k (pos 0) h)) (w.volume k))
       (λ (h : n ≤ k). subst (λ v. nat_abs v ≤ 2000000) (sym (get_or_past (volumes n s) k (pos 0) (omega (arith, length_made (λ j. (net_at s j).volume) n)))) (omega arith))
       (cases_lt k n)
 

@@ -10,7 +10,7 @@ use Rattle.sharing.proofs.Laws.{nothing_lost, capped}
 use Rattle.ledger.specs.Sums.{total_ℤ}
 use Rattle.ledger.specs.SetOff.{margin_before, minor, minor_volume, major_volume, minor_surplus, spared, weights, major_share, relief, margin_after, margins_after, gross_margin}
 use Rattle.ledger.specs.Theorems.{MajorsCover, AlwaysVolume, SetOffHolds, SetOffLaw}
-use Rattle.ledger.proofs.Sums.{upto, total_made, total_mapped, total_by_place, total_scale, total_plus, getD_mapped, upto_add}
+use Rattle.ledger.proofs.Sums.{upto, total_made, total_mapped, total_by_place, total_scale, total_plus, get_or-mapped, upto_add}
 
 -- a member is on one side or the other
 split_size : (g v : ℤ) → minor_volume g v + major_volume g v ≡ nat_abs v
@@ -89,7 +89,7 @@ module _ (r : ℕ) (vs : List ℤ) where
   none_flat (negsuc a) = refl
 
   weight_at : (k : ℕ) → get_or (weights vs) k 0 ≡ major_volume (total_ℤ vs) (get_or vs k (pos 0))
-  weight_at k = ap (get_or (weights vs) k) (sym (none_flat (total_ℤ vs))) ∙ getD_mapped (major_volume (total_ℤ vs)) vs k (pos 0)
+  weight_at k = ap (get_or (weights vs) k) (sym (none_flat (total_ℤ vs))) ∙ get_or-mapped (major_volume (total_ℤ vs)) vs k (pos 0)
 
   share_le : (k : ℕ) → major_share r vs k ≤ 4 * (r * major_volume (total_ℤ vs) (get_or vs k (pos 0)))
   unfolding major_share

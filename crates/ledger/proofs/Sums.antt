@@ -47,10 +47,10 @@ unfolding made
 map_made g n f = map-map g f (range_with_len 0 n)
 
 -- a list mapped, place by place
-pub getD_mapped : {X Y : Type 0} (f : X → Y) (xs : List X) (k : ℕ) (d : X) → get_or (map f xs) k (f d) ≡ f (get_or xs k d)
-getD_mapped f [] k d = refl
-getD_mapped f (x ∷ xs) zero d = refl
-getD_mapped f (x ∷ xs) (suc k) d = getD_mapped f xs k d
+pub get_or-mapped : {X Y : Type 0} (f : X → Y) (xs : List X) (k : ℕ) (d : X) → get_or (map f xs) k (f d) ≡ f (get_or xs k d)
+get_or-mapped f [] k d = refl
+get_or-mapped f (x ∷ xs) zero d = refl
+get_or-mapped f (x ∷ xs) (suc k) d = get_or-mapped f xs k d
 
 by_place : (f : ℕ → ℕ) (xs : List ℕ) (n : ℕ) → length xs ≡ n → ((k : ℕ) → k < n → get_or xs k 0 ≡ f k) → total xs ≡ upto n f
 by_place f xs n e at = ap total (made_from f xs n 0 e at) ∙ total_made n f

@@ -1,11 +1,12 @@
 -- The numbers of markets, sides and sections, and the four numbers of a refusal.
-use Rattle.std.specs.Prelude.{ℕ, cond, Some, None, Ok, Err, Option, Result, ◌==◌}
+use Rattle.std.specs.Prelude.{ℕ, cond, Some, None, Ok, Err, Option, Result, ◌==◌, ok_or}
 use Rattle.sharing.specs.declared.refusal.Refusal.{Refusal}
 use Rattle.sharing.specs.Refusals.{number_of}
 use Rattle.ledger.specs.declared.market.Market.{Market}
 use Rattle.ledger.specs.declared.market.Market.TheVariants.{Electricity, Gas, PropertyRights}
 use Rattle.ledger.specs.declared.side.Side.{Side}
 use Rattle.ledger.specs.declared.side.Side.TheVariants.{Purchase, Sale}
+use Rattle.ledger.specs.declared.unknown.UnknownNumber.{UnknownNumber}
 use Rattle.ledger.specs.declared.section.Section.{Section}
 use Rattle.ledger.specs.declared.section.Section.TheVariants.{Series, Deals, Marks}
 use Rattle.ledger.specs.declared.fault.LoadFault.{LoadFault}
@@ -22,6 +23,10 @@ market_numbered n = cond (n == 1) (Some Electricity) (cond (n == 2) (Some Gas) (
 
 abbrev pub side_numbered : ℕ → Option Side
 side_numbered n = cond (n == 1) (Some Purchase) (cond (n == 2) (Some Sale) None)
+
+-- what a number stands for, or else the number that stands for nothing
+abbrev pub known : {K : Type 0} → (ℕ → Option K) → ℕ → Result K UnknownNumber
+known numbered n = ok_or (numbered n) (record { 0 = n })
 
 abbrev pub section_number : Section → ℕ
 section_number Series = 1

@@ -5,7 +5,7 @@ ghost use Rattle.ledger.specs.Numbers.{plain_numbers, fault_numbers, load_number
 use super::section::Section;
 use sharing::refusal::Refusal;
 
-#[derive(Clone, Copy)]
+#[derive(Clone, Copy, PartialEq, Eq, Debug)]
 pub enum LoadFault {
     // the book is struck
     WrongStage,
@@ -19,8 +19,9 @@ pub enum LoadFault {
     Refused(Section, u16, Refusal),
 }
 
-// The four numbers by which a refusal is reported; all are 0 where a load is accepted.
-#[derive(Clone, Copy, PartialEq, Eq, Debug)]
+// The four numbers by which a refusal is reported; all are 0 where a load is accepted. They are numbers because a report has
+// numbers: `Refusal` and `LoadFault` are the causes as the code knows them.
+#[derive(Clone, Copy, PartialEq, Eq, Debug, Default)]
 pub struct RefusalNumbers {
     pub refusal: u8,
     // 1 to 3, or 0
@@ -31,61 +32,54 @@ pub struct RefusalNumbers {
     pub cause: u8,
 }
 
-impl RefusalNumbers {
-    // The numbers of a refusal outside a load: its own, and three times 0.
-    pub fn plain(refusal: Refusal) -> Self
-        ensures { result ≡ plain_numbers refusal }
-    {
-        RefusalNumbers {
-            refusal: refusal.number(),
-            section: 0,
-            place: 0,
-            cause: 0,
-        }
-    }
+// A refusal outside a load has its own number, and three times 0.
+impl From<Refusal> for RefusalNumbers {
+    ghost from_gives = { λ r ns. ns ≡ plain_numbers r };
 
-    // What a load answers: the numbers of its fault, or four times 0 where it is accepted.
-    pub fn of_load(answer: Result<(), LoadFault>) -> Self
-        ensures { result ≡ load_numbers answer }
-    {
-        match answer {
-            Ok(()) => RefusalNumbers {
-                refusal: 0,
-                section: 0,
-                place: 0,
-                cause: 0,
-            },
-            Err(fault) => fault.numbers(),
+    fn from(refusal: Refusal) -> Self {
+        RefusalNumbers {
+            refusal: u8::from(refusal),
+            ..RefusalNumbers::default()
         }
     }
 }
 
-impl LoadFault {
-    // The four numbers by which the fault is reported.
-    pub fn numbers(self) -> RefusalNumbers
-        ensures { result ≡ fault_numbers self }
-    {
-        match self {
-            LoadFault::WrongStage => RefusalNumbers::plain(Refusal::WrongStage),
-            LoadFault::FileLength => RefusalNumbers::plain(Refusal::BrokenContents),
+impl From<LoadFault> for RefusalNumbers {
+    ghost from_gives = { λ f ns. ns ≡ fault_numbers f };
+
+    fn from(fault: LoadFault) -> Self {
+        match fault {
+            LoadFault::WrongStage => RefusalNumbers::from(Refusal::WrongStage),
+            LoadFault::FileLength => RefusalNumbers::from(Refusal::BrokenContents),
             LoadFault::BrokenEntry(section) => RefusalNumbers {
-                refusal: Refusal::BrokenContents.number(),
-                section: section.number(),
-                place: 0,
-                cause: 0,
+                refusal: u8::from(Refusal::BrokenContents),
+                section: u8::from(section),
+                ..RefusalNumbers::default()
             },
             LoadFault::OutsideLimits(section, place) => RefusalNumbers {
-                refusal: Refusal::RecordOutsideLimits.number(),
-                section: section.number(),
+                refusal: u8::from(Refusal::RecordOutsideLimits),
+                section: u8::from(section),
                 place,
-                cause: Refusal::FieldOutsideLimits.number(),
+                cause: u8::from(Refusal::FieldOutsideLimits),
             },
             LoadFault::Refused(section, place, cause) => RefusalNumbers {
-                refusal: Refusal::RecordRefused.number(),
-                section: section.number(),
+                refusal: u8::from(Refusal::RecordRefused),
+                section: u8::from(section),
                 place,
-                cause: cause.number(),
+                cause: u8::from(cause),
             },
+        }
+    }
+}
+
+// What a load answers: the numbers of its fault, or four times 0 where it is accepted.
+impl From<Result<(), LoadFault>> for RefusalNumbers {
+    ghost from_gives = { λ a ns. ns ≡ load_numbers a };
+
+    fn from(answer: Result<(), LoadFault>) -> Self {
+        match answer {
+            Ok(()) => RefusalNumbers::default(),
+            Err(fault) => RefusalNumbers::from(fault),
         }
     }
 }

@@ -3,6 +3,7 @@
 
 pub mod deal;
 pub mod fault;
+pub mod fields;
 pub mod limits;
 pub mod lines;
 pub mod listing;
@@ -12,3 +13,4 @@ pub mod section;
 pub mod side;
 pub mod stage;
 pub mod theorems;
+pub mod unknown;

@@ -33,18 +33,26 @@ pub const LEAST_FILE: usize = 36;
 
 pub const MOST_FILE: usize = 65_536;
 
+// Whether a number is not the least to the most that it may be.
+fn outside(least: u64, most: u64, number: u64) -> bool
+    ensures { result ≡ outside least most number }
+{
+    !(least..=most).contains(&number)
+}
+
 // Whether a field of a booking is not 1 to the most that it may be.
+#[tactic(auto, unfolding(crate::specs::Limits::field_outside))]
 pub(crate) fn field_outside(field: u32, most: u32) -> bool
     ensures { result ≡ field_outside most field }
 {
-    field < 1 || field > most
+    outside(1, u64::from(most), u64::from(field))
 }
 
 // Whether a number of members, or the seat in a record of a day file, is not 1 to 8.
 pub fn members_outside(members: u16) -> bool
     ensures { result ≡ outside 1 most_members members }
 {
-    members < 1 || members > MOST_MEMBERS
+    outside(1, u64::from(MOST_MEMBERS), u64::from(members))
 }
 
 // Whether a book that holds so many series takes no more.
@@ -65,5 +73,5 @@ pub fn position_outside(volume: i64, cost: i64) -> bool
 pub fn file_length_outside(length: usize) -> bool
     ensures { result ≡ outside least_file most_file length }
 {
-    length < LEAST_FILE || length > MOST_FILE
+    outside(LEAST_FILE as u64, MOST_FILE as u64, length as u64)
 }

@@ -1,23 +1,26 @@
 ghost use Rattle.std.specs.Prelude.{◌≡◌};
-ghost use Rattle.ledger.specs.Numbers.{market_numbered};
+ghost use Rattle.ledger.specs.Numbers.{market_numbered, known};
 
-#[derive(Clone, Copy)]
+use super::unknown::UnknownNumber;
+
+#[derive(Clone, Copy, PartialEq, Eq, Debug)]
 pub enum Market {
     Electricity = 1,
     Gas = 2,
     PropertyRights = 3,
 }
 
-impl Market {
-    // The market of that number, if there is one.
-    pub fn numbered(number: u16) -> Option<Market>
-        ensures { result ≡ market_numbered number }
-    {
+impl TryFrom<u16> for Market {
+    type Error = UnknownNumber;
+
+    ghost try_from_gives = { λ n r. r ≡ known market_numbered n };
+
+    fn try_from(number: u16) -> Result<Self, UnknownNumber> {
         match number {
-            1 => Some(Market::Electricity),
-            2 => Some(Market::Gas),
-            3 => Some(Market::PropertyRights),
-            _ => None,
+            1 => Ok(Market::Electricity),
+            2 => Ok(Market::Gas),
+            3 => Ok(Market::PropertyRights),
+            _ => Err(UnknownNumber(number)),
         }
     }
 }

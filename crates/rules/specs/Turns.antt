@@ -5,7 +5,7 @@ use Rattle.std.proofs.lemmas.List.{at_drop_more, at_drop_all, get_or-set_same, g
 use Rattle.std.proofs.lemmas.Bool.{cases_eq, cases_lt, cond_both, eqb-true}
 use Rattle.std.proofs.lemmas.Bool.Decides.{nat_tests}
 use Rattle.sharing.specs.Lists.{total, made}
-use Rattle.sharing.proofs.Made.{length_made, getD_made, made_from}
+use Rattle.sharing.proofs.Made.{length_made, get_or-made, made_from}
 use Rattle.rules.specs.Division.{Lawful}
 use Rattle.rules.specs.Sequences.{times, full_order, need_of, in_turn, by_sequence}
 use Rattle.rules.specs.Orders.{times_more, length_order, order_once, order_at, order_apart}
@@ -62,7 +62,7 @@ turn_first t ts needs left low high =
     sym (made_from (λ k. in_turn (t ∷ ts) needs left (k + 1)) (slice_set rest (t - 1) v) 8 0 (length-set rest (t - 1) v ∙ n)
     (λ k h. ⊎_elim
     (λ (e : k ≡ t - 1). let w = ap (λ j. slice_index (slice_set rest (t - 1) v) j) e ∙ get_or-set_same rest (t - 1) v 0 (omega arith) in grind (arith, nat_tests))
-    (λ (ne : k ≢ t - 1). let w = get_or-set_other rest (t - 1) k v 0 ne ∙ getD_made (λ j. in_turn ts needs (left - v) (j + 1)) 8 k 0 h in grind (arith, nat_tests))
+    (λ (ne : k ≢ t - 1). let w = get_or-set_other rest (t - 1) k v 0 ne ∙ get_or-made (λ j. in_turn ts needs (left - v) (j + 1)) 8 k 0 h in grind (arith, nat_tests))
     (cases_eq k (t - 1))))
 
 -- together they get the smaller of the amount and their needs
@@ -76,7 +76,7 @@ turns_total (t ∷ ts) needs left ok =
     let ih = turns_total ts needs (left - v) ok.3 in
     let same : t - 1 + 1 ≡ t = omega arith in
     let none : slice_index_or rest (t - 1) 0 ≡ 0
-    = getD_made (λ k. in_turn ts needs (left - v) (k + 1)) 8 (t - 1) 0 (omega arith) ∙ ap (in_turn ts needs (left - v)) same ∙ turn_absent ts needs (left - v) t ok.2 in
+    = get_or-made (λ k. in_turn ts needs (left - v) (k + 1)) 8 (t - 1) 0 (omega arith) ∙ ap (in_turn ts needs (left - v)) same ∙ turn_absent ts needs (left - v) t ok.2 in
     let s = total_set rest (t - 1) v (omega arith) in
     let e = ap total (turn_first t ts needs left ok.0 ok.1) in
     omega arith
@@ -91,14 +91,14 @@ fair_sequence seats full needs amount n low under =
     record {
       seats = l;
       within = λ k. ⊎_elim
-          (λ (h : k < 8). let e = getD_made f 8 k 0 h in let w = turn_within seats needs amount (k + 1) in let p = need_at needs k in omega arith)
+          (λ (h : k < 8). let e = get_or-made f 8 k 0 h in let w = turn_within seats needs amount (k + 1) in let p = need_at needs k in omega arith)
           (λ (h : 8 ≤ k). let e = get_or_past (by_sequence seats needs amount) k 0 (omega arith) in omega arith)
           (cases_lt k 8);
       sum = ⊎_elim
           (λ (h : amount < total (map (need_of needs) seats)). omega arith)
           (λ (h : total (map (need_of needs) seats) ≤ amount).
           let all : by_sequence seats needs amount ≡ needs = ext_get_or 0 (by_sequence seats needs amount) needs (l ∙ sym n)
-          (λ k lt. getD_made f 8 k 0 (omega arith) ∙ turn_full seats needs amount (k + 1) (omega (arith, order_once seats full k (omega arith))) h ∙ need_at needs k) in
+          (λ k lt. get_or-made f 8 k 0 (omega arith) ∙ turn_full seats needs amount (k + 1) (omega (arith, order_once seats full k (omega arith))) h ∙ need_at needs k) in
           let e = ap total all in omega arith)
           (cases_lt amount (total (map (need_of needs) seats)));
     }

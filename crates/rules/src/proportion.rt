@@ -4,29 +4,20 @@ ghost use Rattle.rules.specs.Proportions.{in_proportion, claims_from, claims_sha
 ghost use Rattle.rules.specs.ProportionsLemmas.{fair_proportion};
 
 use super::rule::{DivisionRule, cannot_divide};
-use sharing::need::Need;
+use sharing::claims::Need;
 use sharing::refusal::Refusal;
 use sharing::sharing::share_out;
+use std::array;
 
 // The rule in proportion: there is nothing to set.
-#[derive(Clone, Copy)]
+#[derive(Clone, Copy, PartialEq, Eq, Debug)]
 pub struct Proportion;
 
 // The needs as claims of the seats, with nothing shared yet.
 fn claims_of(needs: &[u64; 8]) -> [Need; 8]
     ensures { result ≡ claims_from 1 needs.now }
 {
-    let [a, b, c, d, e, f, g, h] = *needs;
-    [
-        Need::new(1, a),
-        Need::new(2, b),
-        Need::new(3, c),
-        Need::new(4, d),
-        Need::new(5, e),
-        Need::new(6, f),
-        Need::new(7, g),
-        Need::new(8, h),
-    ]
+    array::from_fn(|place| Need::new(place as u8 + 1, needs[place]))
 }
 
 // The claims with their shares of the amount written into them.
@@ -41,10 +32,7 @@ fn with_shares(mut claims: [Need; 8], amount: u64) -> Result<[Need; 8], Refusal>
 fn shares_of(claims: &[Need; 8]) -> [u64; 8]
     ensures { result ≡ map (λ n. n.share) claims.now }
 {
-    let [a, b, c, d, e, f, g, h] = *claims;
-    [
-        a.share, b.share, c.share, d.share, e.share, f.share, g.share, h.share,
-    ]
+    claims.map(|claim| claim.share)
 }
 
 impl DivisionRule for Proportion {

@@ -22,8 +22,5 @@ pub trait DivisionRule {
 pub fn cannot_divide(needs: &[u64; 8], amount: u64) -> bool
     ensures { result ≡ undividable needs.now amount }
 {
-    match total_within(needs) {
-        Some(total) => total < amount,
-        None => true,
-    }
+    total_within(needs).is_none_or(|total| total < amount)
 }

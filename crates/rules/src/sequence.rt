@@ -7,7 +7,7 @@ use super::rule::{DivisionRule, cannot_divide};
 use sharing::refusal::Refusal;
 
 // The order in which the eight seats take their turns: it names each of them just once.
-#[derive(Clone, Copy)]
+#[derive(Clone, Copy, PartialEq, Eq, Debug)]
 pub struct Sequence {
     seats: [u8; 8],
     ghost full: { full_order seats ≡ true },
@@ -17,25 +17,14 @@ pub struct Sequence {
 fn times_named(seats: &[u8], seat: u8) -> usize
     ensures { result ≡ times seat seats.now }
 {
-    let mut times: usize = 0;
-    for s in seats {
-        if *s == seat {
-            times += 1;
-        }
-    }
-    times
+    seats.iter().filter(|named| **named == seat).count()
 }
 
 // Whether each of the sought seats is named just once.
 fn each_named_once(sought: &[u8], seats: &[u8]) -> bool
     ensures { result ≡ each_once sought.now seats.now }
 {
-    for s in sought {
-        if times_named(seats, *s) != 1 {
-            return false;
-        }
-    }
-    true
+    sought.iter().all(|seat| times_named(seats, *seat) == 1)
 }
 
 // Whether the numbers are a full order of the eight seats.
@@ -43,29 +32,6 @@ fn is_full_order(seats: &[u8]) -> bool
     ensures { result ≡ full_order seats.now }
 {
     seats.len() == 8 && each_named_once(&[1, 2, 3, 4, 5, 6, 7, 8], seats)
-}
-
-// What a seat gets in its turn: the smaller of its need and what is left.
-fn smaller(need: u64, left: u64) -> u64
-    ensures { result ≡ min need left }
-{
-    need.min(left)
-}
-
-// The shares by seat, where the seats take their turns in this order.
-fn serve(seats: &[u8; 8], needs: &[u64; 8], amount: u64) -> [u64; 8]
-    requires { full_order seats.now ≡ true }
-    ensures { result ≡ by_sequence seats.now needs.now amount }
-{
-    let mut shares: [u64; 8] = [0; 8];
-    let mut left = amount;
-    for seat in seats {
-        let place = *seat as usize - 1;
-        let share = smaller(needs[place], left);
-        shares[place] = share;
-        left -= share;
-    }
-    shares
 }
 
 impl Sequence {
@@ -100,6 +66,24 @@ impl Sequence {
     }
 }
 
+impl Sequence {
+    // The shares by seat: each seat in its turn gets the smaller of its need and what is left.
+    #[tactic(auto, using(crate::specs::Orders::order_at))]
+    fn serve(&self, needs: &[u64; 8], amount: u64) -> [u64; 8]
+        ensures { result ≡ by_sequence self.now.seats needs.now amount }
+    {
+        let mut shares: [u64; 8] = [0; 8];
+        let mut left = amount;
+        for seat in &self.seats {
+            let place = usize::from(*seat) - 1;
+            let share = needs[place].min(left);
+            shares[place] = share;
+            left -= share;
+        }
+        shares
+    }
+}
+
 impl DivisionRule for Sequence {
     ghost meaning = { λ s needs amount. by_sequence s.seats needs amount };
 
@@ -109,6 +93,6 @@ impl DivisionRule for Sequence {
         if cannot_divide(needs, amount) {
             return Err(Refusal::CannotShare);
         }
-        Ok(serve(&self.seats, needs, amount))
+        Ok(self.serve(needs, amount))
     }
 }

@@ -1,6 +1,5 @@
 pub mod Made
-mod Steps
-mod Limits
+mod Owners
 mod Portions
 pub mod Shares
 pub mod Laws

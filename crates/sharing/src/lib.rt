@@ -2,9 +2,6 @@
 #![tactic(auto)]
 
 pub mod claims;
-pub mod holding;
-pub mod need;
-pub mod numbers;
 pub mod refusal;
 pub mod sharing;
 pub mod theorems;

@@ -1,3 +1,6 @@
+ghost use Rattle.std.specs.Prelude.{◌≡◌};
+ghost use Rattle.sharing.specs.Refusals.{number_of};
+
 // Why a call of the module is refused: each cause has its number.
 #[derive(Clone, Copy, PartialEq, Eq, Debug)]
 pub enum Refusal {
@@ -33,4 +36,13 @@ pub enum Refusal {
     RecordOutsideLimits = 15,
     // the book refuses a record of a day file
     RecordRefused = 16,
+}
+
+// The number by which a cause is reported.
+impl From<Refusal> for u8 {
+    ghost from_gives = { λ refusal number. number ≡ number_of refusal };
+
+    fn from(refusal: Refusal) -> u8 {
+        refusal as u8
+    }
 }

@@ -1,12 +1,12 @@
 // The one method of sharing, for every kind of weighed claim.
-ghost use Rattle.std.specs.Prelude.{◌≡◌, ◌<◌, ◌≤◌, map, length, set, slice_index_or, slice_set};
+ghost use Rattle.std.specs.Prelude.{◌≡◌, ◌≤◌, map};
 ghost use Rattle.sharing.specs.Lists.{total, among, repeated};
-ghost use Rattle.sharing.specs.Sharing.{portion, shares, weighed, shared, each_given, settled};
+ghost use Rattle.sharing.specs.Sharing.{most_weight, portion, shares, weighed, shared, each_given, settled};
 ghost use Rattle.sharing.specs.Theorems.{SharedFairly};
 
 use super::claims::{Owned, WeighedClaim};
 use super::refusal::Refusal;
-use super::totals::total_weight;
+use super::totals::total_within;
 
 // The largest amount that can be shared.
 pub const MOST_AMOUNT: u64 = 100_000_000_000_000_000;
@@ -15,23 +15,19 @@ pub const MOST_AMOUNT: u64 = 100_000_000_000_000_000;
 fn owner_among<T: Owned>(claims: &[T], owner: u64) -> bool
     ensures { result ≡ among owner (map T.holder claims.now) }
 {
-    for claim in claims {
-        if claim.owner() == owner {
-            return true;
-        }
-    }
-    false
+    claims.iter().any(|claim| claim.owner() == owner)
 }
 
 // Whether two of the claims belong to one owner.
 fn owner_repeated<T: Owned>(claims: &[T]) -> bool
     ensures { result ≡ repeated (map T.holder claims.now) }
 {
-    for i in 0..claims.len() {
-        let owner = claims[i].owner();
-        if owner_among(&claims[i + 1..], owner) {
+    let mut rest = claims;
+    while let Some((claim, others)) = rest.split_first() {
+        if owner_among(others, claim.owner()) {
             return true;
         }
+        rest = others;
     }
     false
 }
@@ -39,7 +35,7 @@ fn owner_repeated<T: Owned>(claims: &[T]) -> bool
 // The running share of claims that weigh `first` of the whole: with the quotient q and the remainder m of the amount
 // by the whole, `first` × q and the whole part of `first` × m / whole.
 fn running_share(amount: u64, whole: u64, first: u64) -> u64
-    requires { (first ≤ whole) × (whole ≤ 3000000000) }
+    requires { (first ≤ whole) × (whole ≤ most_weight) }
     ensures { result ≡ portion amount whole first }
 {
     if whole == 0 {
@@ -48,28 +44,26 @@ fn running_share(amount: u64, whole: u64, first: u64) -> u64
     first * (amount / whole) + first * (amount % whole) / whole
 }
 
-// Writes the share into the claim at this place: the claim is copied out, its share set, and stored back.
-fn set_share<T: WeighedClaim>(claims: &mut [T], place: usize, share: u64)
-    requires { place < length claims.old }
-    ensures { (c : T) → claims.new ≡ slice_set claims.old place (T.given (slice_index_or claims.old place c) share) }
+// Writes the share into the claim: it is copied out, its share set, and stored back.
+fn set_share<T: WeighedClaim>(claim: &mut T, share: u64)
+    ensures { claim.new ≡ T.given claim.old share }
 {
-    let claim = claims[place];
-    claims[place] = claim.with_share(share);
+    *claim = claim.with_share(share);
 }
 
 // Writes into each claim its share of the amount: its running share less the one before it. `sum` is the sum of the
 // first weights.
 fn write_shares<T: WeighedClaim>(claims: &mut [T], amount: u64, whole: u64)
     requires weighed { whole ≡ total (map T.weighs claims.old) }
-    requires within { whole ≤ 3000000000 }
+    requires within { whole ≤ most_weight }
     ensures { claims.new ≡ each_given T.given claims.old (shares (map T.weighs claims.old) amount) }
 {
     let mut sum: u64 = 0;
     let mut running: u64 = 0;
-    for i in 0..claims.len() {
-        sum += claims[i].weight();
+    for claim in claims.iter_mut() {
+        sum += claim.weight();
         let next = running_share(amount, whole, sum);
-        set_share(claims, i, next - running);
+        set_share(claim, next - running);
         running = next;
     }
 }
@@ -82,9 +76,7 @@ fn weigh<T: WeighedClaim>(claims: &[T], amount: u64) -> Result<u64, Refusal>
     if amount > MOST_AMOUNT {
         return Err(Refusal::CannotShare);
     }
-    let Some(whole) = total_weight(claims) else {
-        return Err(Refusal::CannotShare);
-    };
+    let whole = total_within(claims).ok_or(Refusal::CannotShare)?;
     if amount > 0 && whole == 0 {
         return Err(Refusal::CannotShare);
     }

@@ -3,7 +3,7 @@ ghost use Rattle.std.specs.Prelude.{◌≡◌, ◌+◌, map};
 ghost use Rattle.sharing.specs.Lists.{total};
 ghost use Rattle.sharing.specs.Sharing.{limited};
 
-use super::claims::WeighedClaim;
+use super::claims::Weighed;
 
 // The weights of all claims together, at most.
 pub const MOST_WEIGHT: u64 = 3_000_000_000;
@@ -12,30 +12,16 @@ pub const MOST_WEIGHT: u64 = 3_000_000_000;
 fn add_within(sum: u64, more: u64) -> Option<u64>
     ensures { result ≡ limited (sum + more) }
 {
-    match sum.checked_add(more) {
-        Some(both) if both <= MOST_WEIGHT => Some(both),
-        _ => None,
-    }
+    sum.checked_add(more).filter(|both| *both <= MOST_WEIGHT)
 }
 
-// The sum of the numbers, unless it is above the limit on weights.
-pub fn total_within(numbers: &[u64]) -> Option<u64>
-    ensures { result ≡ limited (total numbers.now) }
+// The sum of the weights, unless it is above the limit.
+pub fn total_within<T: Weighed>(items: &[T]) -> Option<u64>
+    ensures { result ≡ limited (total (map T.weighs items.now)) }
 {
     let mut sum = 0;
-    for n in numbers {
-        sum = add_within(sum, *n)?;
-    }
-    Some(sum)
-}
-
-// The sum of the weights of the claims, unless it is above the limit.
-pub(crate) fn total_weight<T: WeighedClaim>(claims: &[T]) -> Option<u64>
-    ensures { result ≡ limited (total (map T.weighs claims.now)) }
-{
-    let mut sum = 0;
-    for claim in claims {
-        sum = add_within(sum, claim.weight())?;
+    for item in items {
+        sum = add_within(sum, item.weight())?;
     }
     Some(sum)
 }

@@ -1,6 +1,8 @@
-use Rattle.std.proofs.Common.{map, sym, ap, rules}
-use Rattle.rules.specs.Eight.{eight}
+use Rattle.std.proofs.Common.{◌∙◌, sym, rules}
+use Rattle.sharing.proofs.Made.{each_mapped}
 use Rattle.rules.proofs.proportion.shares_of.Goals as goal
 
 pub returns : goal.returns
-returns c = sym (ap (map (λ n. n.share)) (eight record { seat = 0; zloty = 0; share = 0 } c.args.claims.now (search rules)))
+returns c =
+    let mapped = c.map.ensures.items in
+    each_mapped _ c.args.claims.now c.map.result (mapped.long ∙ sym c.told-claims) (λ k x y h. let t = mapped.at k x y (search rules) in search rules)

@@ -1,19 +1,11 @@
-use Rattle.std.proofs.Common.{arith}
-use Rattle.std.proofs.lemmas.List.{at_drop_more, at_drop_all}
-use Rattle.std.proofs.lemmas.Bool.Decides.{nat_tests}
-use Rattle.rules.specs.Sequences.{each_once}
+use Rattle.std.proofs.Common.{eqb, ◌∙◌, rules, tests}
+use Rattle.std.proofs.lemmas.Iterator.{YieldsList-from_slice}
+use Rattle.std.proofs.lemmas.Iterator.Search.{all_from_yields_List}
+use Rattle.rules.specs.Sequences.{times}
+use Rattle.rules.proofs.Tests.{each_tested}
 use Rattle.rules.proofs.sequence.each_named_once.Goals as goal
-
-pub returns-then-times_named-ne1 : goal.returns-then-times_named-ne1
-returns-then-times_named-ne1 c =
-    let m = at_drop_more (λ ys. each_once ys c.args.seats.now) c.args.sought.now c.loop-s.s-index 0 c.loop-s-test.true in
-    grind (arith, nat_tests)
-
-pub loop-s-preserved : goal.loop-s-preserved
-loop-s-preserved c =
-    let m = at_drop_more (λ ys. each_once ys c.args.seats.now) c.args.sought.now c.loop-s.s-index 0 c.loop-s-test.true in
-    grind (arith, nat_tests)
 
 pub returns : goal.returns
 returns c =
-    let end = at_drop_all (λ ys. each_once ys c.args.seats.now) c.args.sought.now c.loop-s.s-index c.loop-s-test.false in cc
+    all_from_yields_List (λ s. eqb (times s c.args.seats.now) 1) _ _ c.all.result c.all.ensures.ran (YieldsList-from_slice c.args.sought.now cc) (λ x b q k. search (rules, tests))
+    ∙ each_tested c.args.sought.now c.args.seats.now

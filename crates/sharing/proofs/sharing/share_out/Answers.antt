@@ -7,7 +7,7 @@ use Rattle.sharing.proofs.sharing.share_out.Goals as goal
 
 pub returns : goal.returns
 returns g c =
-    let give = g.T.WeighedClaim.given in let holder = g.T.Owned.holder in let f = g.T.WeighedClaim.weighs in let gets = g.T.WeighedClaim.gets in
+    let give = g.T.WeighedClaim.given in let holder = g.T.Owned.holder in let f = g.T.Weighed.weighs in let gets = g.T.WeighedClaim.gets in
     let xs = c.args.claims.now in let a = c.args.amount in let ys = c.write_shares.new.claims in
     let ok = weighed_ok (map holder xs) (map f xs) a c.in_ok-whole.whole c.in_ok-whole.ensures in
     let done = c.write_shares.ensures in

@@ -6,10 +6,10 @@ use Rattle.sharing.proofs.Shares.{shares_after}
 use Rattle.sharing.proofs.sharing.write_shares.Given as goal
 
 -- the weights before i are summed, their running share is known, and the claims before i have their shares
-abbrev pub invariant-loop-i : goal.invariant-loop-i
-invariant-loop-i g l =
-    let f = g.T.WeighedClaim.weighs in let give = g.T.WeighedClaim.given in
-    (l.sum + total (map f (drop l.i l.claims)) ≡ l.whole)
+abbrev pub invariant-loop-claim : goal.invariant-loop-claim
+invariant-loop-claim g l =
+    let f = g.T.Weighed.weighs in let give = g.T.WeighedClaim.given in
+    (l.sum + total (map f (drop l.claim-index l.claims)) ≡ l.whole)
     × (l.running ≡ so_far l.amount l.whole l.sum)
-    × (take l.i l.claims ++ each_given give (drop l.i l.claims) (shares_after l.amount l.whole l.sum (map f (drop l.i l.claims)))
+    × (take l.claim-index l.claims ++ each_given give (drop l.claim-index l.claims) (shares_after l.amount l.whole l.sum (map f (drop l.claim-index l.claims)))
     ≡ each_given give l.initial.claims (shares_after l.amount l.whole 0 (map f l.initial.claims)))

@@ -1,0 +1,14 @@
+use std::error::Error;
+use std::fmt;
+
+// A number that stands for no market, or for no side.
+#[derive(Clone, Copy, PartialEq, Eq, Debug)]
+pub struct UnknownNumber(pub u16);
+
+impl fmt::Display for UnknownNumber {
+    fn fmt<W: fmt::Write>(&self, f: &mut fmt::Formatter<W>) -> fmt::Result {
+        write!(f, "nothing has the number {}", self.0)
+    }
+}
+
+impl Error for UnknownNumber {}
