@@ -1,6 +1,5 @@
 -- The lines of the set-off question, from the margins of the members.
-use Rattle.std.proofs.Common.{◌≡◌, ℕ, ◌+◌, ◌<◌, ◌≤◌, Bool, true, false, cond, ltb, List, ◌++◌, length, get_or, take, drop, Some, Ok, Err, Option, sym, ap, ◌∙◌, arith}
-use Rattle.std.proofs.lemmas.List.{length-take-le, get_or-take}
+use Rattle.std.proofs.Common.{◌≡◌, ℕ, ◌+◌, ◌<◌, ◌≤◌, Bool, true, false, cond, ltb, List, ◌++◌, length, get_or, drop, Some, Ok, Err, Option, sym, ap, ◌∙◌, arith}
 use Rattle.std.proofs.lemmas.Bool.{cond-true, lt-ltb}
 use Rattle.sharing.proofs.Made.{length_made, get_or-made}
 use Rattle.sharing.specs.declared.refusal.Refusal.TheVariants.{NoVolume}
@@ -42,10 +41,3 @@ module _ (n : ℕ) (few : n ≤ 8) (s : Row) where
       by : (q : Bool) → Ok ms ≡ cond q (Err NoVolume) (Ok (margins_in (terms_of n s))) → ms ≡ margins_in (terms_of n s)
       by true e = let z : ◌≡◌ {A = ℕ} 0 1 = cc in absurd (omega arith)
       by false e = cc
-
--- lines written from the first of the margins
-pub front_written : (ms : List Margin) (n : ℕ) (old : List SetOffLine) → n ≤ length ms → over_lines (length (take n ms)) (line_of (take n ms)) old ≡ over_lines n (line_of ms) old
-front_written ms n old h =
-    ap (λ k. over_lines k (line_of (take n ms)) old) (length-take-le n ms h)
-    ∙ ap (λ xs. xs ++ drop n old) (made_same n (line_of (take n ms)) (line_of ms) (line_of ms 0)
-    (λ k l. ap (λ (m : Margin). record { seat = k + 1; before = m.before; after = m.after }) (get_or-take n ms k no_margin l)))

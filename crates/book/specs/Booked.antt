@@ -1,11 +1,11 @@
 -- What the steps of a booking answer and leave, on the way to the definitions of the calls.
-use Rattle.std.specs.Prelude.{ℕ, ◌-◌, Bool, cond, not, List, [], ◌∷◌, ◌++◌, length, ◌+ℤ◌, Some, None, Ok, Err, Option, Result, nat_le, slice_set}
+use Rattle.std.specs.Prelude.{ℕ, ◌-◌, Bool, cond, not, List, [], ◌∷◌, ◌++◌, length, drop, ◌+ℤ◌, Some, None, Ok, Err, Option, Result, nat_le, slice_set}
 use Rattle.sharing.specs.declared.refusal.Refusal.{Refusal}
 use Rattle.sharing.specs.declared.refusal.Refusal.TheVariants.{BookFull, PositionLimits}
 use Rattle.ledger.specs.declared.deal.Deal.{Deal}
 use Rattle.ledger.specs.Limits.{most_series}
 use Rattle.ledger.specs.Ledger.{Net, Row, Ledger, net_of, in_limits}
-use Rattle.ledger.specs.Bookings.{Booking, dealt_net, booked}
+use Rattle.ledger.specs.Bookings.{Booking, booking_checks, dealt_net, booked}
 use Rattle.book.specs.declared.trade.Trade.{Trade}
 use Rattle.book.specs.declared.state.Position.{Position}
 use Rattle.book.specs.Views.{net_from}
@@ -44,6 +44,10 @@ push_checks l = (nat_le most_series (length l.rows), BookFull) ∷ []
 
 abbrev pub push_left : Row → Result (Unit {0}) Refusal → Ledger → Ledger
 push_left s r l = done_if r (record { stage = l.stage; members = l.members; rows = l.rows ++ (s ∷ []) }) l
+
+-- the checks of a booking after that of its fields
+abbrev pub further_checks : Ledger → Booking → List (Bool × Refusal)
+further_checks l b = drop 1 (booking_checks l b)
 
 -- a booking, by what was answered
 abbrev pub booking_left : Booking → Result (Unit {0}) Refusal → Ledger → Ledger

@@ -1,5 +1,5 @@
 -- The margins of one series as the book works them out: n is the number of members, k the place of one, seat k + 1.
-use Rattle.std.specs.Prelude.{◌≡◌, ℕ, ◌+◌, ◌-◌, true, false, cond, List, map, length, take, ℤ, pos, Ok, Err, Result, nat_lt, slice_index_or}
+use Rattle.std.specs.Prelude.{◌≡◌, ℕ, ◌+◌, ◌-◌, ◌*◌, true, false, cond, List, map, length, take, ℤ, pos, Ok, Err, Result, nat_lt, slice_index_or}
 use Rattle.sharing.specs.declared.refusal.Refusal.{Refusal}
 use Rattle.sharing.specs.declared.refusal.Refusal.TheVariants.{NoVolume}
 use Rattle.sharing.specs.declared.claims.Claim.{Claim}
@@ -7,12 +7,20 @@ use Rattle.sharing.specs.declared.claims.Mwh.{Mwh}
 use Rattle.sharing.specs.Lists.{made}
 use Rattle.sharing.specs.Sharing.{shares}
 use Rattle.ledger.specs.declared.lines.SetOffLine.{SetOffLine}
+use Rattle.ledger.specs.Limits.{most_price, most_risk, most_volume}
 use Rattle.ledger.specs.Sums.{total_ℤ}
 use Rattle.ledger.specs.Ledger.{Row}
 use Rattle.ledger.specs.SetOff.{margin_before, minor, minor_surplus, major_volume, spared, weights, margin_after, no_volume}
 use Rattle.ledger.specs.Margins.{rate_of, volumes}
 use Rattle.book.specs.declared.state.Position.{Position}
 use Rattle.book.specs.declared.set_off.Margin.{Margin}
+
+-- the rate of an MWh at most, in units, and a fifth of a member's margin
+abbrev pub most_rate : ℕ
+most_rate = most_price * most_risk
+
+abbrev pub most_fifth : ℕ
+most_fifth = most_rate * most_volume
 
 -- what the margins in a series come from: the rate of an MWh, and the net volumes of the members by seat
 pub record Terms : Type 0 where
@@ -32,7 +40,7 @@ margin_of t k = record { before = margin_before t.rate (slice_index_or t.volumes
 abbrev pub no_margin : Margin
 no_margin = record { before = 0; after = 0 }
 
--- the margins by seat; seats that no member has have none
+-- the margins by seat; a seat with no member has none
 abbrev pub seat_margin : Terms → ℕ → Margin
 seat_margin t k = cond (nat_lt k (length t.volumes)) (margin_of t k) no_margin
 

@@ -1,4 +1,4 @@
-// Listings, deals and repricings as a book takes them. The stage is looked at before.
+// Listings, deals and repricings as a book takes them. The stage and the fields are looked at before.
 ghost use Rattle.std.specs.Prelude.{◌≡◌};
 ghost use Rattle.std.proofs.Common.{rules};
 ghost use Rattle.ledger.specs.Checks.{decided};
@@ -39,12 +39,13 @@ impl Entry for Listing {
 
     ghost called = { Prim.search rules };
 
-    fn enter(&self, book: &mut Book) -> Result<(), Refusal> {
-        let listing = Checked::new(*self)?;
-        if book.find(self.code).is_some() {
+    ghost fields_first = { Prim.search rules };
+
+    fn enter(fields: &Checked<Self>, book: &mut Book) -> Result<(), Refusal> {
+        if book.find(fields.code).is_some() {
             return Err(Refusal::ListedAlready);
         }
-        let series = Series::listed(&listing);
+        let series = Series::listed(fields);
         book.push(series)
     }
 }
@@ -57,15 +58,17 @@ impl Entry for Deal {
 
     ghost called = { Prim.search rules };
 
-    fn enter(&self, book: &mut Book) -> Result<(), Refusal> {
-        let deal = Checked::new(*self)?;
-        let seat = book.seat(self.seat)?;
-        let Some(place) = book.find(self.code) else {
+    ghost fields_first = { Prim.search rules };
+
+    fn enter(fields: &Checked<Self>, book: &mut Book) -> Result<(), Refusal> {
+        let Deal { code, seat, .. } = **fields;
+        let seat = book.seat(seat)?;
+        let Some(place) = book.find(code) else {
             return Err(Refusal::NotListed);
         };
         // The array is lent first: an element lent straight out of a book gets no proof.
         let series = &mut book.series;
-        series[place].deal(seat, &deal)
+        series[place].deal(seat, fields)
     }
 }
 
@@ -77,14 +80,15 @@ impl Entry for Repricing {
 
     ghost called = { Prim.search rules };
 
-    fn enter(&self, book: &mut Book) -> Result<(), Refusal> {
-        let repricing = Checked::new(*self)?;
-        let Some(place) = book.find(self.code) else {
+    ghost fields_first = { Prim.search rules };
+
+    fn enter(fields: &Checked<Self>, book: &mut Book) -> Result<(), Refusal> {
+        let Some(place) = book.find(fields.code) else {
             return Err(Refusal::NotListed);
         };
         // The array is lent first, as for a deal.
         let series = &mut book.series;
-        series[place].reprice(&repricing);
+        series[place].reprice(fields);
         Ok(())
     }
 }

@@ -3,14 +3,16 @@ ghost use Rattle.std.specs.Prelude.{◌≡◌, [], ◌∷◌};
 ghost use Rattle.sharing.specs.declared.refusal.Refusal.TheVariants.{WrongStage};
 ghost use Rattle.ledger.specs.Checks.{decided};
 ghost use Rattle.ledger.specs.Ledger.{struck};
-ghost use Rattle.ledger.specs.Bookings.{lists, deals, reprices};
+ghost use Rattle.ledger.specs.Bookings.{lists, deals, reprices, booking_checks};
 ghost use Rattle.ledger.specs.Calls.{listing, dealing, repricing, open_checks, plain_answer};
 ghost use Rattle.ledger.specs.Runs.{Turned};
 ghost use Rattle.book.specs.Views.{ledger_of};
+ghost use Rattle.book.specs.Booked.{booking_left};
 
 use super::entry::Entry;
 use super::state::Book;
 use ledger::deal::Deal;
+use ledger::fields::Checked;
 use ledger::listing::Listing;
 use ledger::repricing::Repricing;
 use ledger::stage::Stage;
@@ -27,13 +29,22 @@ impl Book {
         }
     }
 
+    // Enters what has all fields within their limits, in whatever stage the book is.
+    fn enter<E: Entry>(&mut self, entry: &E) -> Result<(), Refusal>
+        ensures answers { result ≡ decided (booking_checks (ledger_of self.old) (E.booking entry.now)) tt }
+        ensures books { ledger_of self.new ≡ booking_left (E.booking entry.now) result (ledger_of self.old) }
+    {
+        let fields = Checked::new(*entry)?;
+        E::enter(&fields, self)
+    }
+
     // Books an entry in stage open. Any run that the book has gone through goes on with the call that books it.
     fn book<E: Entry>(&mut self, entry: &E) -> Result<(), Refusal>
         ensures answers { result ≡ decided (open_checks (ledger_of self.old) (E.booking entry.now)) tt }
         ensures turned { Turned (ledger_of self.old) (E.call entry.now) (plain_answer result) (ledger_of self.new) }
     {
         self.in_stage_open()?;
-        entry.enter(self)
+        self.enter(entry)
     }
 
     // Lists a series.

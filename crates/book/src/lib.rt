@@ -5,6 +5,7 @@ mod bookings;
 mod calls;
 mod entry;
 mod lookup;
+mod members;
 mod position;
 mod questions;
 mod seat;

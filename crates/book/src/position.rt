@@ -16,7 +16,7 @@ impl Position {
         Position { volume: 0, cost: 0 }
     }
 
-    // The position of these figures, unless it is outside its limits.
+    // The position of these two figures, which are what one is made of, unless it is outside its limits.
     fn within_limits(volume: i64, cost: i64) -> Option<Position>
         ensures { seen result ≡ kept_in (record { volume = volume; cost = cost }) }
     {

@@ -7,22 +7,25 @@ ghost use Rattle.ledger.specs.Runs.{Turned};
 ghost use Rattle.book.specs.Views.{ledger_of};
 ghost use Rattle.book.specs.SettingOff.{line_of};
 
-use super::set_off::{Margin, write_lines};
+use super::set_off::{Margin, lines_of};
 use super::state::Book;
+use ledger::limits::SEATS;
 use ledger::lines::SetOffLine;
 use sharing::refusal::Refusal;
 
 impl Book {
     // Writes a line for each member of the book, in seat order. Further lines stay as they are.
-    #[tactic(auto, using(crate::proofs::Lines::front_written))]
-    fn write_members(&self, margins: &[Margin; 8], lines: &mut [SetOffLine])
+    #[tactic(auto, using(crate::proofs::Filled::take_made))]
+    fn write_members(&self, margins: &[Margin; SEATS], lines: &mut [SetOffLine])
         requires { self.now.members ≤ length lines.old }
         ensures { lines.new ≡ over_lines self.now.members (line_of margins.now) lines.old }
     {
-        write_lines(lines, &margins[..usize::from(self.members)]);
+        let count = self.members.count();
+        lines[..count].copy_from_slice(&lines_of(margins)[..count]);
     }
 
-    // The net volume in MWh and the net cost in grosze of a seat in the series of a code.
+    // The net volume in MWh and the net cost in grosze of a seat in the series of a code. Two signed numbers, as the
+    // question's answer is.
     pub fn position(&self, seat: u16, code: u32) -> Result<(i64, i64), Refusal>
         ensures answers { result ≡ decided (position_checks (ledger_of self.now) seat code) (position_figures (ledger_of self.now) seat code) }
         ensures turned { Turned (ledger_of self.now) (position seat code) (position_answer result) (ledger_of self.now) }
@@ -45,7 +48,7 @@ impl Book {
         let Some(place) = self.find(code) else {
             return Err(Refusal::NotListed);
         };
-        if lines.len() < usize::from(self.members) {
+        if lines.len() < self.members.count() {
             return Err(Refusal::TooLittleRoom);
         }
         let margins = self.series[place].margins(self.members)?;

@@ -43,7 +43,7 @@ impl Book {
     pub(crate) fn seat(&self, number: u16) -> Result<Seat, Refusal>
         ensures { result ≡ decided ((outside 1 self.now.members number, NoSuchSeat) ∷ []) number }
     {
-        if !(1..=self.members).contains(&number) {
+        if !(1..=self.members.count()).contains(&usize::from(number)) {
             return Err(Refusal::NoSuchSeat);
         }
         Ok(Seat { number })

@@ -11,6 +11,7 @@ use super::state::{Position, Series};
 use super::trade::{Trade, signed};
 use ledger::deal::Deal;
 use ledger::fields::Checked;
+use ledger::limits::SEATS;
 use ledger::listing::Listing;
 use ledger::repricing::Repricing;
 use sharing::refusal::Refusal;
@@ -33,7 +34,7 @@ impl Series {
             size,
             price,
             risk,
-            positions: [Position::flat(); 8],
+            positions: [Position::flat(); SEATS],
         }
     }
 

@@ -1,13 +1,16 @@
 // The set-off of one series: the initial margins of the members, before and after.
 ghost use Rattle.std.specs.Prelude.{◌≡◌, ◌+◌, ◌*◌, ◌<◌, ◌≤◌, length, pos, slice_index_or, unsigned_abs};
 ghost use Rattle.sharing.specs.Lists.{made};
+ghost use Rattle.ledger.specs.Limits.{most_members};
 ghost use Rattle.ledger.specs.Sums.{total_ℤ};
 ghost use Rattle.ledger.specs.SetOff.{margin_before, minor, major_volume, minor_surplus, spared};
-ghost use Rattle.ledger.specs.Margins.{rate_of, over_lines};
+ghost use Rattle.ledger.specs.Margins.{rate_of};
 ghost use Rattle.book.specs.Views.{row_from};
-ghost use Rattle.book.specs.SettingOff.{Terms, terms_of, volumes_held, seat_margin, margins_by, margins_found, holding_of, HoldShares, SharesOut, relief_of, margin_with, line_of};
+ghost use Rattle.book.specs.SettingOff.{most_rate, most_fifth, Terms, terms_of, volumes_held, seat_margin, margins_by, margins_found, holding_of, HoldShares, SharesOut, relief_of, margin_with, line_of};
 
+use super::members::Members;
 use super::state::{Position, Series};
+use ledger::limits::SEATS;
 use ledger::lines::SetOffLine;
 use sharing::claims::Holding;
 use sharing::refusal::Refusal;
@@ -25,7 +28,7 @@ pub(crate) struct Margin {
 impl Margin {
     // The line of the member at this place, who has this margin.
     fn line(&self, place: usize) -> SetOffLine
-        requires { place < 8 }
+        requires { place < most_members }
         ensures { result ≡ record { seat = place + 1; before = self.now.before; after = self.now.after } }
     {
         SetOffLine {
@@ -50,16 +53,17 @@ impl<'a> Model for SetOff<'a> {
 
     ghost view = { λ s. record { rate = s.rate; volumes = volumes_held s.held.now } };
 
-    ghost invariant = { λ s. (s.rate ≤ 2000000000) × (length s.held.now ≤ 8)
+    ghost invariant = { λ s. (s.rate ≤ most_rate) × (length s.held.now ≤ most_members)
         × (s.net ≡ total_ℤ (volumes_held s.held.now)) };
 }
 
 // The group's net volume.
 fn net_volume(held: &[Position]) -> i64
-    requires { length held.now ≤ 8 }
+    requires { length held.now ≤ most_members }
     ensures { result ≡ total_ℤ (volumes_held held.now) }
 {
     let mut net = 0;
+    // A chain has no clause for a sum that may be below zero.
     for position in held {
         net += position.volume;
     }
@@ -82,7 +86,7 @@ impl SetOff<'_> {
     // A fifth of the margin before set-off, in units: the rate for each MWh of the volume, bought or sold.
     fn fifth_of(&self, position: &Position) -> u64
         ensures value { result ≡ self.now.rate * unsigned_abs position.now.volume }
-        ensures bound { result ≤ 4000000000000000 }
+        ensures bound { result ≤ most_fifth }
     {
         self.rate * position.volume.unsigned_abs()
     }
@@ -90,7 +94,7 @@ impl SetOff<'_> {
     // The surplus of a position on the minor side: four fifths of its margin. One on the major side has none.
     fn surplus_of(&self, position: &Position) -> u64
         ensures value { result ≡ minor_surplus self.now.rate (total_ℤ self.now.volumes) position.now.volume }
-        ensures bound { result ≤ 16000000000000000 }
+        ensures bound { result ≤ 4 * most_fifth }
     {
         if self.is_minor(position) {
             4 * self.fifth_of(position)
@@ -111,7 +115,7 @@ impl SetOff<'_> {
         }
     }
 
-    // The same of the seat at this place. A seat with no member has none.
+    // The major-side volume of the seat at this place: none, if no member sits there.
     fn major_volume_at(&self, place: usize) -> u64
         ensures { result ≡ major_volume (total_ℤ self.now.volumes) (slice_index_or self.now.volumes place (pos 0)) }
     {
@@ -131,8 +135,9 @@ impl SetOff<'_> {
             .sum()
     }
 
-    // What each seat holds on the major side, as its claim to the surplus, with nothing shared to it yet.
-    fn holdings(&self) -> [Holding; 8]
+    // What each seat holds on the major side, as its claim to the surplus, with nothing shared to it yet. Memory is
+    // fixed: there is a place for each seat, whatever the number of members.
+    fn holdings(&self) -> [Holding; SEATS]
         ensures { result ≡ made 8 (holding_of self.now) }
     {
         array::from_fn(|place| Holding::new(place as u8 + 1, self.major_volume_at(place)))
@@ -140,7 +145,7 @@ impl SetOff<'_> {
 
     // The holdings, with the surplus of the minor side shared among the members' by their volumes. It is refused where
     // there is a surplus and no volume to share it by: within the limits, nothing else refuses a sharing.
-    fn shared_holdings(&self) -> Result<[Holding; 8], Refusal>
+    fn shared_holdings(&self) -> Result<[Holding; SEATS], Refusal>
         ensures { SharesOut self.now result }
     {
         let mut holdings = self.holdings();
@@ -177,7 +182,7 @@ impl SetOff<'_> {
     }
 
     // The margin of the seat at this place, by what was shared to its holding.
-    fn margin_at(&self, place: usize, holdings: &[Holding; 8]) -> Margin
+    fn margin_at(&self, place: usize, holdings: &[Holding; SEATS]) -> Margin
         requires { HoldShares self.now holdings.now }
         ensures { result ≡ seat_margin self.now place }
     {
@@ -188,8 +193,9 @@ impl SetOff<'_> {
     }
 
     // The initial margins of the members. A member on the minor side keeps a fifth of his margin, and those on the
-    // major side share what the minor side is spared.
-    fn margins(&self) -> Result<[Margin; 8], Refusal>
+    // major side share what the minor side is spared. Memory is fixed: each seat has a place, and one with no member a
+    // margin of zero.
+    fn margins(&self) -> Result<[Margin; SEATS], Refusal>
         ensures { result ≡ margins_by self.now }
     {
         let holdings = self.shared_holdings()?;
@@ -201,17 +207,16 @@ impl Series {
     // The rate of an MWh: price × risk.
     fn rate(&self) -> u64
         ensures value { result ≡ rate_of (row_from self.now) }
-        ensures bound { result ≤ 2000000000 }
+        ensures bound { result ≤ most_rate }
     {
         u64::from(self.price) * u64::from(self.risk)
     }
 
     // The set-off of the first seats, those of the members.
-    fn set_off(&self, members: u16) -> SetOff<'_>
-        requires { members ≤ 8 }
+    fn set_off(&self, members: Members) -> SetOff<'_>
         ensures { result ≡ terms_of members (row_from self.now) }
     {
-        let held = &self.positions[..usize::from(members)];
+        let held = &self.positions[..members.count()];
         SetOff {
             rate: self.rate(),
             net: net_volume(held),
@@ -220,22 +225,16 @@ impl Series {
     }
 
     // The initial margins of the members, before and after set-off.
-    pub(crate) fn margins(&self, members: u16) -> Result<[Margin; 8], Refusal>
-        requires { members ≤ 8 }
+    pub(crate) fn margins(&self, members: Members) -> Result<[Margin; SEATS], Refusal>
         ensures { result ≡ margins_found members (row_from self.now) }
     {
         self.set_off(members).margins()
     }
 }
 
-// Writes a line for each of the margins, in seat order. Lines past them stay as they are.
-pub(crate) fn write_lines(lines: &mut [SetOffLine], margins: &[Margin])
-    requires few { length margins.now ≤ 8 }
-    requires room { length margins.now ≤ length lines.old }
-    ensures { lines.new ≡ over_lines (length margins.now) (line_of margins.now) lines.old }
+// The line of each seat, those of seats with no member among them: memory is fixed.
+pub(crate) fn lines_of(margins: &[Margin; SEATS]) -> [SetOffLine; SEATS]
+    ensures { result ≡ made 8 (line_of margins.now) }
 {
-    // By index: nothing is known of a slice's elements once a `zip` of its `iter_mut` has ended.
-    for (place, margin) in margins.iter().enumerate() {
-        lines[place] = margin.line(place);
-    }
+    array::from_fn(|place| margins[place].line(place))
 }

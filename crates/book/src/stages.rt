@@ -1,15 +1,14 @@
 // A new book, its opening, and its two stages.
 ghost use Rattle.std.specs.Prelude.{◌≡◌, []};
-ghost use Rattle.ledger.specs.Limits.{most_members};
 ghost use Rattle.ledger.specs.Checks.{decided};
 ghost use Rattle.ledger.specs.Ledger.{opened};
 ghost use Rattle.ledger.specs.Calls.{opening, opening_checks, event_call, event_checks, plain_answer};
-ghost use Rattle.ledger.specs.History.{Between};
 ghost use Rattle.ledger.specs.Runs.{Ran, Turned};
 ghost use Rattle.book.specs.Views.{ledger_of};
 
+use super::members::Members;
 use super::state::{Book, Position, Series};
-use ledger::limits::{MOST_SERIES, members_outside};
+use ledger::limits::{MOST_SERIES, SEATS};
 use ledger::market::Market;
 use ledger::stage::{Event, Stage};
 use sharing::refusal::Refusal;
@@ -23,15 +22,14 @@ impl Series {
             size: 1,
             price: 1,
             risk: 1,
-            positions: [Position::flat(); 8],
+            positions: [Position::flat(); SEATS],
         }
     }
 }
 
 impl Book {
     // An empty book in stage open.
-    fn empty(members: u16) -> Self
-        requires { Between 1 most_members members }
+    fn empty(members: Members) -> Self
         ensures { ledger_of result ≡ opened members }
     {
         Book {
@@ -46,7 +44,7 @@ impl Book {
     pub fn new() -> Self
         ensures { Ran [] (ledger_of result) }
     {
-        Book::empty(1)
+        Book::empty(Members::one())
     }
 
     // Opens the book for so many members, in whatever stage it is. It drops all that was listed and booked.
@@ -54,10 +52,7 @@ impl Book {
         ensures answers { result ≡ decided (opening_checks members) tt }
         ensures turned { Turned (ledger_of self.old) (opening members) (plain_answer result) (ledger_of self.new) }
     {
-        if members_outside(members) {
-            return Err(Refusal::MemberCount);
-        }
-        *self = Book::empty(members);
+        *self = Book::empty(Members::new(members)?);
         Ok(())
     }
 

@@ -4,6 +4,7 @@ ghost use Rattle.book.specs.Trades.{most_traded_volume, most_traded_cost, toward
 use ledger::side::Side;
 
 // What a deal adds to a position: its volume in MWh and its cost in grosze, both below zero in a sale.
+// Like a position but for its limits: const parameters for these would be no plainer.
 #[derive(Clone, Copy, PartialEq, Eq, Debug)]
 pub(crate) struct Trade {
     pub(crate) volume: i64,

@@ -1,13 +1,11 @@
 // One surplus divided by a rule, with the calls that remain.
-ghost use Rattle.std.specs.Prelude.{◌≡◌, ℕ, ◌+◌, ◌-◌, map, ◌≤◌, ◌&&◌, ◌==◌, slice_index};
+ghost use Rattle.std.specs.Prelude.{◌≡◌, ℕ, ◌+◌, ◌-◌, ◌^◌, ◌<◌, ◌≤◌, sum, sum_by, ◌&&◌, ◌==◌, slice_index};
 ghost use Rattle.sharing.specs.Lists.{total};
-ghost use Rattle.rules.specs.Division.{Fair};
 ghost use Rattle.sharing.specs.Sharing.{most_weight};
-ghost use Rattle.checklist.specs.Dividing.{parts_of, division_of, outcome, both, AddsUp, SameTotals};
+ghost use Rattle.checklist.specs.Dividing.{division_of, outcome, both, AddsUp, SameTotals};
 
 use rules::rule::DivisionRule;
 use sharing::refusal::Refusal;
-use sharing::totals::total_within;
 use std::array;
 
 // One seat's part of a division, in zloty: a call is a need less its share.
@@ -40,39 +38,33 @@ pub struct Division {
     pub called: u64,
 }
 
-fn parts_of(needs: &[u64; 8], shares: &[u64; 8]) -> [Part; 8]
-    requires { (k : ℕ) → slice_index shares.now k ≤ slice_index needs.now k }
-    ensures { result ≡ parts_of needs.now shares.now }
-{
-    array::from_fn(|place| Part::new(needs[place], shares[place]))
-}
-
-fn calls_of(parts: &[Part; 8]) -> [u64; 8]
-    ensures { result ≡ map (λ p. p.call) parts.now }
-{
-    parts.map(|part| part.call)
-}
-
 fn sum_of(numbers: &[u64; 8]) -> u64
-    requires { total numbers.now ≤ most_weight }
-    ensures { result ≡ total numbers.now }
+    requires { sum numbers.now < 2 ^ 64 }
+    ensures { result ≡ sum numbers.now }
 {
-    total_within(numbers).unwrap()
+    numbers.iter().sum()
+}
+
+fn called_of(parts: &[Part; 8]) -> u64
+    requires { sum_by (λ p. p.call) parts.now < 2 ^ 64 }
+    ensures { result ≡ sum_by (λ p. p.call) parts.now }
+{
+    parts.iter().map(|part| part.call).sum()
 }
 
 // The division of these shares, with the calls that they leave.
-fn division_from(needs: &[u64; 8], shares: [u64; 8], amount: u64) -> Division
+fn division_from(needs: &[u64; 8], shares: &[u64; 8]) -> Division
     requires low { total needs.now ≤ most_weight }
-    requires fair { Fair needs.now amount shares }
-    ensures is { result ≡ division_of needs.now shares }
-    ensures adds { (result.shared ≡ amount) × (result.called + amount ≡ total needs.now) }
+    requires within { (k : ℕ) → slice_index shares.now k ≤ slice_index needs.now k }
+    ensures is { result ≡ division_of needs.now shares.now }
+    ensures adds { result.called + result.shared ≡ total needs.now }
 {
-    let parts = parts_of(needs, &shares);
+    let parts = array::from_fn(|place| Part::new(needs[place], shares[place]));
     Division {
         parts,
         needed: sum_of(needs),
-        shared: sum_of(&shares),
-        called: sum_of(&calls_of(&parts)),
+        shared: sum_of(shares),
+        called: called_of(&parts),
     }
 }
 
@@ -87,7 +79,7 @@ pub fn divide_by<R: DivisionRule>(
     ensures adds { AddsUp needs.now amount result }
 {
     let shares = rule.divide(needs, amount)?;
-    Ok(division_from(needs, shares, amount))
+    Ok(division_from(needs, &shares))
 }
 
 // Divides the amount by one rule and by another: whichever they are, no total differs.

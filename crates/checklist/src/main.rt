@@ -28,9 +28,9 @@ fn check_division(rt: &HostRuntime) -> Result<(), Failure> {
     sequence.reorder(&ORDER)?;
     let (proportional, sequential) = divide_by_both(&Proportion, &sequence, &NEEDS, SURPLUS)?;
     println!(rt; "In proportion to the needs")?;
-    println!(rt; "{}", Table(&proportional))?;
+    println!(rt; "{}\n", Table(&proportional))?;
     println!(rt; "{}", Order(&sequence.seats()))?;
-    println!(rt; "{}", Table(&sequential))?;
+    println!(rt; "{}\n", Table(&sequential))?;
     if !same_totals(&proportional, &sequential) {
         return Err(Failure::TotalMoved);
     }

@@ -1,5 +1,5 @@
 // How the checklist prints its tables.
-use super::division::Division;
+use super::division::{Division, Part};
 use std::fmt;
 
 // The needs, shares and calls of the seats in zloty, with their sums.
@@ -15,14 +15,11 @@ impl fmt::Display for Table<'_> {
             called,
         } = self.0;
         writeln!(f, "  seat        need       share        call")?;
-        for (place, part) in parts.iter().enumerate() {
+        for (place, Part { need, share, call }) in parts.iter().enumerate() {
             let seat = place + 1;
-            let need = part.need;
-            let share = part.share;
-            let call = part.call;
             writeln!(f, "{seat:>6}{need:>12}{share:>12}{call:>12}")?;
         }
-        writeln!(f, "   sum{needed:>12}{shared:>12}{called:>12}")
+        write!(f, "   sum{needed:>12}{shared:>12}{called:>12}")
     }
 }
 

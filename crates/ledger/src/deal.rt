@@ -21,6 +21,7 @@ pub struct Deal {
 impl Fields for Deal {
     ghost wrong = { wrong_deal };
 
+    // The rules give the limits of a side as a range, so it is tested as one.
     fn outside_limits(&self) -> bool {
         field_outside(self.code, MOST_CODE)
             || field_outside(u32::from(self.side), u32::from(MOST_SIDE))

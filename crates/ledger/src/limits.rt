@@ -8,6 +8,9 @@ pub const MOST_MEMBERS: u16 = 8;
 
 pub const MOST_SERIES: usize = 48;
 
+// the seats of a book, whatever the number of its members
+pub const SEATS: usize = 8;
+
 // the fields of a listing, a deal and a repricing, all from 1
 pub const MOST_CODE: u32 = 999_999;
 
@@ -33,26 +36,19 @@ pub const LEAST_FILE: usize = 36;
 
 pub const MOST_FILE: usize = 65_536;
 
-// Whether a number is not the least to the most that it may be.
-fn outside(least: u64, most: u64, number: u64) -> bool
-    ensures { result ≡ outside least most number }
-{
-    !(least..=most).contains(&number)
-}
-
 // Whether a field of a booking is not 1 to the most that it may be.
 #[tactic(auto, unfolding(crate::specs::Limits::field_outside))]
 pub(crate) fn field_outside(field: u32, most: u32) -> bool
     ensures { result ≡ field_outside most field }
 {
-    outside(1, u64::from(most), u64::from(field))
+    !(1..=most).contains(&field)
 }
 
 // Whether a number of members, or the seat in a record of a day file, is not 1 to 8.
 pub fn members_outside(members: u16) -> bool
     ensures { result ≡ outside 1 most_members members }
 {
-    outside(1, u64::from(MOST_MEMBERS), u64::from(members))
+    !(1..=MOST_MEMBERS).contains(&members)
 }
 
 // Whether a book that holds so many series takes no more.
@@ -62,7 +58,7 @@ pub fn series_full(count: usize) -> bool
     count >= MOST_SERIES
 }
 
-// Whether a position is outside its limits.
+// Whether a position is outside its limits. It takes the two figures, since no position outside exists.
 pub fn position_outside(volume: i64, cost: i64) -> bool
     ensures { result ≡ not (in_limits (record { volume = volume; cost = cost })) }
 {
@@ -73,5 +69,5 @@ pub fn position_outside(volume: i64, cost: i64) -> bool
 pub fn file_length_outside(length: usize) -> bool
     ensures { result ≡ outside least_file most_file length }
 {
-    outside(LEAST_FILE as u64, MOST_FILE as u64, length as u64)
+    !(LEAST_FILE..=MOST_FILE).contains(&length)
 }

@@ -23,6 +23,7 @@ pub struct Listing {
 impl Fields for Listing {
     ghost wrong = { wrong_listing };
 
+    // The rules give the limits of a market as a range, so it is tested as one.
     fn outside_limits(&self) -> bool {
         field_outside(self.code, MOST_CODE)
             || field_outside(u32::from(self.market), u32::from(MOST_MARKET))

@@ -3,7 +3,7 @@ ghost use Rattle.std.specs.Prelude.{◌≡◌, map};
 ghost use Rattle.rules.specs.Proportions.{in_proportion, claims_from, claims_shared};
 ghost use Rattle.rules.specs.ProportionsLemmas.{fair_proportion};
 
-use super::rule::{DivisionRule, cannot_divide};
+use super::rule::{DivisionRule, dividable};
 use sharing::claims::Need;
 use sharing::refusal::Refusal;
 use sharing::sharing::share_out;
@@ -41,9 +41,7 @@ impl DivisionRule for Proportion {
     ghost fair = { λ rule. fair_proportion };
 
     fn divide(&self, needs: &[u64; 8], amount: u64) -> Result<[u64; 8], Refusal> {
-        if cannot_divide(needs, amount) {
-            return Err(Refusal::CannotShare);
-        }
+        dividable(needs, amount)?;
         let claims = with_shares(claims_of(needs), amount)?;
         Ok(shares_of(&claims))
     }

@@ -3,8 +3,10 @@ ghost use Rattle.std.specs.Prelude.{◌≡◌, min, true, if◌then◌else◌, O
 ghost use Rattle.rules.specs.Sequences.{times, each_once, full_order, eight_seats, by_sequence};
 ghost use Rattle.rules.specs.Turns.{fair_sequence};
 
-use super::rule::{DivisionRule, cannot_divide};
+use super::rule::{DivisionRule, dividable};
 use sharing::refusal::Refusal;
+
+const EIGHT_SEATS: [u8; 8] = [1, 2, 3, 4, 5, 6, 7, 8];
 
 // The order in which the eight seats take their turns: it names each of them just once.
 #[derive(Clone, Copy, PartialEq, Eq, Debug)]
@@ -31,7 +33,7 @@ fn each_named_once(sought: &[u8], seats: &[u8]) -> bool
 fn is_full_order(seats: &[u8]) -> bool
     ensures { result ≡ full_order seats.now }
 {
-    seats.len() == 8 && each_named_once(&[1, 2, 3, 4, 5, 6, 7, 8], seats)
+    seats.len() == 8 && each_named_once(&EIGHT_SEATS, seats)
 }
 
 impl Sequence {
@@ -39,9 +41,7 @@ impl Sequence {
     pub fn new() -> Self
         ensures { result.seats ≡ eight_seats }
     {
-        Sequence {
-            seats: [1, 2, 3, 4, 5, 6, 7, 8],
-        }
+        Sequence { seats: EIGHT_SEATS }
     }
 
     // The seats in the order of their turns.
@@ -52,6 +52,7 @@ impl Sequence {
     }
 
     // Sets the order. Refused, and the old order stays, where it is not a full order of the eight seats.
+    #[tactic(auto, using(crate::specs::Orders::length_order))]
     pub fn reorder(&mut self, seats: &[u8]) -> Result<(), Refusal>
         ensures answers { result ≡ (if full_order seats.now then Ok tt else Err Refusal.NotAFullOrder) }
         ensures orders { self.new.seats ≡ (if full_order seats.now then seats.now else self.old.seats) }
@@ -59,14 +60,11 @@ impl Sequence {
         if !is_full_order(seats) {
             return Err(Refusal::NotAFullOrder);
         }
-        let mut order: [u8; 8] = [0; 8];
-        order.copy_from_slice(seats);
+        let order = <[u8; 8]>::try_from(seats).unwrap();
         self.seats = order;
         Ok(())
     }
-}
 
-impl Sequence {
     // The shares by seat: each seat in its turn gets the smaller of its need and what is left.
     #[tactic(auto, using(crate::specs::Orders::order_at))]
     fn serve(&self, needs: &[u64; 8], amount: u64) -> [u64; 8]
@@ -90,9 +88,7 @@ impl DivisionRule for Sequence {
     ghost fair = { λ rule. fair_sequence rule.seats rule.full };
 
     fn divide(&self, needs: &[u64; 8], amount: u64) -> Result<[u64; 8], Refusal> {
-        if cannot_divide(needs, amount) {
-            return Err(Refusal::CannotShare);
-        }
+        dividable(needs, amount)?;
         Ok(self.serve(needs, amount))
     }
 }

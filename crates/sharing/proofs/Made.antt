@@ -4,7 +4,7 @@ use Rattle.std.proofs.lemmas.List.FromFn.{length-map-range_with_len, get_or-map-
 use Rattle.std.proofs.lemmas.List.{take_more}
 use Rattle.std.specs.Array.{IsFromFnResult, IsFromFnResultFrom}
 use Rattle.std.specs.Fn.{Called}
-use Rattle.std.specs.List.{sum_by}
+use Rattle.std.specs.List.{sum, sum_by}
 use Rattle.std.proofs.lemmas.List.Recursion.{is_sum_by}
 use Rattle.std.proofs.lemmas.Bool.{cases_lt}
 use denote.Param.Members.{Mut}
@@ -20,6 +20,9 @@ total_more xs i h = let e = ap total (take_more xs i 0 h) ∙ total_append (take
 -- a sum over a list, as the library has it
 pub total_by : {X : Type 0} (f : X → ℕ) (xs : List X) → sum_by f xs ≡ total (map f xs)
 total_by f xs = sym (is_sum_by (λ ys. total (map f ys)) f refl (λ y ys. refl) xs)
+
+pub total_is : (xs : List ℕ) → sum xs ≡ total xs
+total_is xs = sym (is_sum_by total (λ x. x) refl (λ _ _. refl) xs)
 
 module _ {X : Type 0} (f : ℕ → X) where
   pub length_made : (n : ℕ) → length (made n f) ≡ n

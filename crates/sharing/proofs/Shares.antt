@@ -1,7 +1,7 @@
 -- The shares one after another, as a loop over the claims comes to them.
-use Rattle.std.proofs.Common.{◌≡◌, ℕ, zero, suc, ◌+◌, ◌-◌, List, [], ◌∷◌, map, length, get_or, take, drop, sym, refl, ap, ◌∙◌, arith}
+use Rattle.std.proofs.Common.{◌≡◌, ℕ, zero, suc, ◌+◌, ◌-◌, ◌≤◌, List, [], ◌∷◌, ◌++◌, map, length, get_or, take, drop, sym, refl, ap, ◌∙◌, arith}
 use Rattle.std.specs.List.{range_with_len}
-use Rattle.std.proofs.lemmas.List.{drop_more, drop_all}
+use Rattle.std.proofs.lemmas.List.{drop_more, drop_all, at_drop_all, take_all, append-nil}
 use Rattle.sharing.specs.Lists.{total, made}
 use Rattle.sharing.specs.Sharing.{portion, share, shares, each_given}
 use Rattle.sharing.proofs.Made.{total_more}
@@ -50,3 +50,14 @@ module _ {C : Type 0} (give : C → ℕ → C) (tell : C → ℕ) where
 
   pub shares_told : ((c : C) (n : ℕ) → tell (give c n) ≡ n) → (cs : List C) (ws : List ℕ) (a : ℕ) (ds : List C) → length cs ≡ length ws → ds ≡ each_given give cs (shares ws a) → map tell ds ≡ shares ws a
   shares_told sets cs ws a ds n e = ap (map tell) e ∙ told_shares sets cs (shares ws a) (n ∙ sym (length_shares ws a))
+
+-- a loop over the claims that has come to their end: each has its share
+pub all_given : {C : Type 0} (give : C → ℕ → C) (f : C → ℕ) (a w sum i : ℕ) (xs ys : List C) → w ≡ total (map f xs) → length ys ≤ i
+    → take i ys ++ each_given give (drop i ys) (shares_after a w sum (map f (drop i ys))) ≡ each_given give xs (shares_after a w 0 (map f xs))
+    → ys ≡ each_given give xs (shares (map f xs) a)
+all_given give f a w sum i xs ys whole past done =
+    let front = take_all i ys past in
+    let rest = at_drop_all (λ zs. each_given give zs (shares_after a w sum (map f zs))) ys i past in
+    let nil = append-nil ys in
+    let are = ap (λ v. shares_after a v 0 (map f xs)) whole ∙ sym (shares_are (map f xs) a) in
+    cc

@@ -32,16 +32,27 @@ fn owner_repeated<T: Owned>(claims: &[T]) -> bool
     false
 }
 
-// The running share of claims that weigh `first` of the whole: with the quotient q and the remainder m of the amount
-// by the whole, `first` × q and the whole part of `first` × m / whole.
-fn running_share(amount: u64, whole: u64, first: u64) -> u64
-    requires { (first ≤ whole) × (whole ≤ most_weight) }
-    ensures { result ≡ portion amount whole first }
-{
-    if whole == 0 {
-        return 0;
+// An amount, and the whole weight that it is shared by.
+#[derive(Clone, Copy, PartialEq, Eq, Debug)]
+struct Sharing {
+    amount: u64,
+    whole: u64,
+    ghost within: { whole ≤ most_weight },
+}
+
+impl Sharing {
+    // The running share of claims that weigh `first` of the whole: with the quotient q and the remainder m of the amount
+    // by the whole, `first` × q and the whole part of `first` × m / whole.
+    fn running_share(self, first: u64) -> u64
+        requires { first ≤ self.whole }
+        ensures { result ≡ portion self.amount self.whole first }
+    {
+        if self.whole == 0 {
+            return 0;
+        }
+        let (q, m) = (self.amount / self.whole, self.amount % self.whole);
+        first * q + first * m / self.whole
     }
-    first * (amount / whole) + first * (amount % whole) / whole
 }
 
 // Writes the share into the claim: it is copied out, its share set, and stored back.
@@ -53,16 +64,16 @@ fn set_share<T: WeighedClaim>(claim: &mut T, share: u64)
 
 // Writes into each claim its share of the amount: its running share less the one before it. `sum` is the sum of the
 // first weights.
-fn write_shares<T: WeighedClaim>(claims: &mut [T], amount: u64, whole: u64)
-    requires weighed { whole ≡ total (map T.weighs claims.old) }
-    requires within { whole ≤ most_weight }
-    ensures { claims.new ≡ each_given T.given claims.old (shares (map T.weighs claims.old) amount) }
+#[tactic(auto, using(crate::proofs::Shares::all_given))]
+fn write_shares<T: WeighedClaim>(claims: &mut [T], sharing: Sharing)
+    requires { sharing.whole ≡ total (map T.weighs claims.old) }
+    ensures { claims.new ≡ each_given T.given claims.old (shares (map T.weighs claims.old) sharing.amount) }
 {
     let mut sum: u64 = 0;
     let mut running: u64 = 0;
     for claim in claims.iter_mut() {
         sum += claim.weight();
-        let next = running_share(amount, whole, sum);
+        let next = sharing.running_share(sum);
         set_share(claim, next - running);
         running = next;
     }
@@ -96,6 +107,6 @@ pub fn share_out<T: WeighedClaim>(claims: &mut [T], amount: u64) -> Result<(), R
     ensures fair { SharedFairly result (map T.weighs claims.old) amount (map T.gets claims.new) }
 {
     let whole = weigh(claims, amount)?;
-    write_shares(claims, amount, whole);
+    write_shares(claims, Sharing { amount, whole });
     Ok(())
 }

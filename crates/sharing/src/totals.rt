@@ -19,6 +19,7 @@ fn add_within(sum: u64, more: u64) -> Option<u64>
 pub fn total_within<T: Weighed>(items: &[T]) -> Option<u64>
     ensures { result ≡ limited (total (map T.weighs items.now)) }
 {
+    // A `for` with `?`, since of `try_fold` a proof knows too little.
     let mut sum = 0;
     for item in items {
         sum = add_within(sum, item.weight())?;

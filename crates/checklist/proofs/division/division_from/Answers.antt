@@ -1,19 +1,27 @@
-use Rattle.std.proofs.Common.{ap, arith, rules}
-use Rattle.sharing.specs.Lists.{total}
-use Rattle.checklist.proofs.Divisions.{calls_total, calls_told}
+use Rattle.std.proofs.Common.{arith, rules}
+use Rattle.sharing.proofs.Made.{array_made, total_is}
+use Rattle.checklist.proofs.Divisions.{calls_total, called_is}
 use Rattle.checklist.proofs.division.division_from.Goals as goal
 
-pub sum_of-requires-2 : goal.sum_of-requires-2
-sum_of-requires-2 c = omega (arith, calls_total c.args.needs.now c.args.shares c.args.amount (search rules) c.requires.fair)
+pub sum_of-requires : goal.sum_of-requires
+sum_of-requires c = omega (arith, total_is c.args.needs.now)
 
-pub sum_of-requires-3 : goal.sum_of-requires-3
-sum_of-requires-3 c =
-    let e = ap total (calls_told c.args.needs.now c.args.shares c.parts_of-parts.result c.calls_of.result c.parts_of-parts.ensures c.calls_of.ensures) in
-    omega (arith, calls_total c.args.needs.now c.args.shares c.args.amount (search rules) c.requires.fair)
+pub sum_of-requires-2 : goal.sum_of-requires-2
+sum_of-requires-2 c = omega (arith, total_is c.args.shares.now, calls_total c.args.needs.now c.args.shares.now c.told-needs c.told-shares c.requires.within)
+
+pub called_of-requires : goal.called_of-requires
+called_of-requires c =
+    let are = array_made _ 8 c.from_fn-parts.result record { need = 0; share = 0; call = 0 } c.from_fn-parts.ensures.items (λ k x q h t. (search rules, search rules)) in
+    omega (
+      arith,
+      called_is c.args.needs.now c.args.shares.now c.from_fn-parts.result are,
+      calls_total c.args.needs.now c.args.shares.now c.told-needs c.told-shares c.requires.within,
+    )
 
 pub returns : goal.returns
 returns c =
-    let e = ap total (calls_told c.args.needs.now c.args.shares c.parts_of-parts.result c.calls_of.result c.parts_of-parts.ensures c.calls_of.ensures) in
-    let t = calls_total c.args.needs.now c.args.shares c.args.amount (search rules) c.requires.fair in
-    let s = c.requires.fair.sum in
-    record { is = cc; adds = (omega arith, omega arith) }
+    let are = array_made _ 8 c.from_fn-parts.result record { need = 0; share = 0; call = 0 } c.from_fn-parts.ensures.items (λ k x q h t. (search rules, search rules)) in
+    let called = called_is c.args.needs.now c.args.shares.now c.from_fn-parts.result are in
+    let t = calls_total c.args.needs.now c.args.shares.now c.told-needs c.told-shares c.requires.within in
+    let n = total_is c.args.needs.now in let s = total_is c.args.shares.now in
+    record { is = cc; adds = omega arith }

@@ -9,7 +9,7 @@ use Rattle.sharing.proofs.sharing.write_shares.Given as goal
 abbrev pub invariant-loop-claim : goal.invariant-loop-claim
 invariant-loop-claim g l =
     let f = g.T.Weighed.weighs in let give = g.T.WeighedClaim.given in
-    (l.sum + total (map f (drop l.claim-index l.claims)) ≡ l.whole)
-    × (l.running ≡ so_far l.amount l.whole l.sum)
-    × (take l.claim-index l.claims ++ each_given give (drop l.claim-index l.claims) (shares_after l.amount l.whole l.sum (map f (drop l.claim-index l.claims)))
-    ≡ each_given give l.initial.claims (shares_after l.amount l.whole 0 (map f l.initial.claims)))
+    (l.sum + total (map f (drop l.claim-index l.claims)) ≡ l.sharing.whole)
+    × (l.running ≡ so_far l.sharing.amount l.sharing.whole l.sum)
+    × (take l.claim-index l.claims ++ each_given give (drop l.claim-index l.claims) (shares_after l.sharing.amount l.sharing.whole l.sum (map f (drop l.claim-index l.claims)))
+    ≡ each_given give l.initial.claims (shares_after l.sharing.amount l.sharing.whole 0 (map f l.initial.claims)))

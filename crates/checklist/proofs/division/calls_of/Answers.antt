@@ -1,8 +1,0 @@
-use Rattle.std.proofs.Common.{◌∙◌, sym, rules}
-use Rattle.sharing.proofs.Made.{each_mapped}
-use Rattle.checklist.proofs.division.calls_of.Goals as goal
-
-pub returns : goal.returns
-returns c =
-    let mapped = c.map.ensures.items in
-    each_mapped _ c.args.parts.now c.map.result (mapped.long ∙ sym c.told-parts) (λ k x y h. let t = mapped.at k x y (search rules) in search rules)
