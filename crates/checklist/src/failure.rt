@@ -1,4 +1,8 @@
 // Why the checklist ends before its last line.
+ghost use Rattle.std.specs.Prelude.{◌≡◌};
+ghost use Rattle.checklist.specs.declared.failure.Failure.TheVariants.{Refused};
+ghost use Rattle.checklist.specs.Failures.{failure_text};
+
 use sharing::refusal::Refusal;
 use std::{fmt, io};
 
@@ -13,6 +17,8 @@ pub(crate) enum Failure {
 }
 
 impl fmt::Display for Failure {
+    ghost output = { failure_text };
+
     fn fmt<W: fmt::Write>(&self, f: &mut fmt::Formatter<W>) -> fmt::Result {
         match self {
             Failure::Refused(refusal) => {
@@ -25,6 +31,8 @@ impl fmt::Display for Failure {
 }
 
 impl From<Refusal> for Failure {
+    ghost from_gives = { λ refusal failure. failure ≡ Refused refusal };
+
     fn from(refusal: Refusal) -> Failure {
         Failure::Refused(refusal)
     }

@@ -1,3 +1,5 @@
+ghost use Rattle.std.specs.Prelude.{◌++◌, Some, codes, decimal};
+
 use std::error::Error;
 use std::fmt;
 
@@ -6,6 +8,8 @@ use std::fmt;
 pub struct UnknownNumber(pub u16);
 
 impl fmt::Display for UnknownNumber {
+    ghost output = { λ unknown. Some (codes "nothing has the number " ++ decimal unknown.0) };
+
     fn fmt<W: fmt::Write>(&self, f: &mut fmt::Formatter<W>) -> fmt::Result {
         write!(f, "nothing has the number {}", self.0)
     }
