@@ -149,5 +149,7 @@ fn checked_fields(rt: HostRuntime) -> Result<(), Fail> {
     assert_eq!(rt; Checked::new(LISTING)?.market(), Market::Electricity);
     assert_eq!(rt; Checked::new(Deal { side: 2, ..DEAL })?.side(), Side::Sale);
     assert!(rt; Checked::new(Deal { side: 3, ..DEAL }) == Err(Refusal::FieldOutsideLimits));
+    let checked = Checked::new(DEAL)?;
+    assert!(rt; checked.clone()? == checked);
     Ok(())
 }

@@ -11,7 +11,8 @@ use super::side::Side;
 pub struct Deal {
     pub code: u32,
     pub seat: u16,
-    // 1 purchase, 2 sale: a number, since any may be handed in, and a wrong one is the call's to refuse
+    // 1 purchase, 2 sale: a number, since any may be handed in, and a wrong one is the
+    // call's to refuse
     pub side: u16,
     pub lots: u32,
     // in grosze per MWh

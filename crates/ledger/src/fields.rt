@@ -1,5 +1,5 @@
 // The fields of listings, deals and repricings against their limits, whoever hands them in.
-ghost use Rattle.std.specs.Prelude.{◌≡◌, Bool, false, [], ◌∷◌};
+ghost use Rattle.std.specs.Prelude.{◌≡◌, ⊤, Bool, false, [], ◌∷◌};
 ghost use Rattle.sharing.specs.declared.refusal.Refusal.TheVariants.{FieldOutsideLimits};
 ghost use Rattle.ledger.specs.Checks.{decided};
 
@@ -34,8 +34,12 @@ impl<T: Fields> Model for Checked<T> {
     ghost inverse = { λ t. record { fields = t } };
 }
 
-// By hand, since nothing is known of what the clone of every `T` answers.
+// By hand, since nothing is known of what the clone of every `T` answers. It is a copy, and never fails.
 impl<T: Fields + Copy> Clone for Checked<T> {
+    ghost is_clone = { λ checked clone. clone ≡ checked };
+
+    ghost is_infallible = { λ _. ⊤ };
+
     fn clone(&self) -> Result<Self, AllocError> {
         Ok(*self)
     }

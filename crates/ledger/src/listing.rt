@@ -10,7 +10,8 @@ use super::market::Market;
 #[derive(Clone, Copy, PartialEq, Eq, Debug)]
 pub struct Listing {
     pub code: u32,
-    // 1 electricity, 2 gas, 3 property rights: a number, since any may be handed in, and a wrong one is the call's to refuse
+    // 1 electricity, 2 gas, 3 property rights: a number, since any may be handed in, and a wrong one is the
+    // call's to refuse
     pub market: u16,
     // MWh per lot
     pub size: u16,
