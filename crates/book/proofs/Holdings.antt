@@ -46,7 +46,7 @@ seats_apart n = apart_from 0 n
 only_weightless : (owners ws : List ℕ) (a : ℕ) → a ≤ 64000000000000000 → total ws ≤ 16000000 → repeated owners ≡ false → unshareable owners ws a ≡ (ltb 0 a && eqb (total ws) 0)
 only_weightless owners ws a low few apart = grind (arith, nat_tests)
 
-length_weights : (vs : List ℤ) → length (weights vs) ≡ length vs
+pub length_weights : (vs : List ℤ) → length (weights vs) ≡ length vs
 length_weights vs = length-map vs (major_volume (total_ℤ vs))
 
 module _ (t : Terms) (ps : List Position) (seen : volumes_held ps ≡ t.volumes) (rated : t.rate ≤ 2000000000) (few : length ps ≤ 8) (hs : List (Claim Mwh)) (are : hs ≡ made 8 (holding_of t)) (a : ℕ) (whole : a ≡ spared t.rate t.volumes) where

@@ -2,6 +2,7 @@ pub mod Fields
 pub mod Trades
 pub mod Places
 pub mod Turns
+pub mod Within
 pub mod Filled
 pub mod Held
 pub mod Holdings

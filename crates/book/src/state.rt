@@ -44,6 +44,7 @@ pub struct Book {
     pub(crate) members: Members,
     pub(crate) count: usize,
     pub(crate) series: [Series; MOST_SERIES],
+    ghost peopled: { Between 1 most_members members },
     ghost few: { count ≤ most_series },
     ghost room: { length series ≡ most_series },
 }

@@ -13,7 +13,7 @@ use division::{divide_by_both, same_totals};
 use failure::Failure;
 use rules::proportion::Proportion;
 use rules::sequence::Sequence;
-use tables::{Order, Table};
+use tables::{print_division, print_order};
 
 // The group of the check: its needs in zloty by seat, its surplus, and the sequence that it agreed on.
 const NEEDS: [u64; 8] = [0, 1200, 4800, 0, 0, 0, 0, 0];
@@ -28,9 +28,9 @@ fn check_division(rt: &HostRuntime) -> Result<(), Failure> {
     sequence.reorder(&ORDER)?;
     let (proportional, sequential) = divide_by_both(&Proportion, &sequence, &NEEDS, SURPLUS)?;
     println!(rt; "In proportion to the needs")?;
-    println!(rt; "{}\n", Table(&proportional))?;
-    println!(rt; "{}", Order(&sequence.seats()))?;
-    println!(rt; "{}\n", Table(&sequential))?;
+    print_division(rt, &proportional)?;
+    print_order(rt, &sequence.seats())?;
+    print_division(rt, &sequential)?;
     if !same_totals(&proportional, &sequential) {
         return Err(Failure::TotalMoved);
     }

@@ -1,38 +1,37 @@
-// How the checklist prints its tables.
+// How the checklist prints its tables: line by line, so that where no more can be written the lines before are out.
 use super::division::{Division, Part};
-use std::fmt;
+use std::{fmt, io};
 
-// The needs, shares and calls of the seats in zloty, with their sums.
-#[derive(Clone, Copy)]
-pub(crate) struct Table<'a>(pub(crate) &'a Division);
-
-impl fmt::Display for Table<'_> {
+// The columns of a line: need, share and call.
+impl fmt::Display for Part {
     fn fmt<W: fmt::Write>(&self, f: &mut fmt::Formatter<W>) -> fmt::Result {
-        let Division {
-            parts,
-            needed,
-            shared,
-            called,
-        } = self.0;
-        writeln!(f, "  seat        need       share        call")?;
-        for (place, Part { need, share, call }) in parts.iter().enumerate() {
-            let seat = place + 1;
-            writeln!(f, "{seat:>6}{need:>12}{share:>12}{call:>12}")?;
-        }
-        write!(f, "   sum{needed:>12}{shared:>12}{called:>12}")
+        let Part { need, share, call } = self;
+        write!(f, "{need:>12}{share:>12}{call:>12}")
     }
 }
 
-// The order in which the seats take their turns.
-#[derive(Clone, Copy)]
-pub(crate) struct Order<'a>(pub(crate) &'a [u8; 8]);
-
-impl fmt::Display for Order<'_> {
-    fn fmt<W: fmt::Write>(&self, f: &mut fmt::Formatter<W>) -> fmt::Result {
-        write!(f, "By the sequence")?;
-        for seat in self.0 {
-            write!(f, " {seat}")?;
-        }
-        Ok(())
+// The needs, shares and calls of the seats in zloty, with their sums.
+pub(crate) fn print_division(rt: &HostRuntime, division: &Division) -> io::Result<()> {
+    let Division {
+        parts,
+        needed,
+        shared,
+        called,
+    } = division;
+    println!(rt; "  seat        need       share        call")?;
+    for (place, part) in parts.iter().enumerate() {
+        let seat = place + 1;
+        println!(rt; "{seat:>6}{part}")?;
     }
+    println!(rt; "   sum{needed:>12}{shared:>12}{called:>12}")?;
+    println!(rt; "")
+}
+
+// The order in which the seats take their turns.
+pub(crate) fn print_order(rt: &HostRuntime, seats: &[u8; 8]) -> io::Result<()> {
+    print!(rt; "By the sequence")?;
+    for seat in seats {
+        print!(rt; " {seat}")?;
+    }
+    println!(rt; "")
 }

@@ -19,7 +19,8 @@ pub struct Sequence {
 fn times_named(seats: &[u8], seat: u8) -> usize
     ensures { result ≡ times seat seats.now }
 {
-    seats.iter().filter(|named| **named == seat).count()
+    // each number that names it adds one
+    seats.iter().map(|named| usize::from(*named == seat)).sum()
 }
 
 // Whether each of the sought seats is named just once.

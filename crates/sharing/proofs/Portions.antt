@@ -55,3 +55,10 @@ portion_capped a w k c d h = ⊎_elim
 
 pub portion_whole : (a w : ℕ) → 0 < w → portion a w w ≡ a
 portion_whole a w some = portion_is a w w some ∙ mul-div_right a some
+
+-- what is multiplied and added on the way fits: the product with the quotient, and the portion, are within the amount
+pub quotient_fits : (a w c : ℕ) → c ≤ w → c * (a / w) ≤ a
+quotient_fits a w c le = let p = mul-le-mul_right (a / w) le in let q = div-mul-le_self a w in omega (arith, mul_comm (a / w) w)
+
+pub portion_fits : (a w c : ℕ) → 0 < w → c ≤ w → portion a w c ≤ a
+portion_fits a w c some le = let p = portion_whole a w some in let m = portion_mono a w c w le in omega arith
