@@ -38,11 +38,11 @@ module _ (ps : List Position) (vs : List ℤ) (seen : volumes_held ps ≡ vs) wh
   pub total_held : (f : ℤ → ℕ) → sum_by (λ p. f p.volume) ps ≡ total (map f vs)
   total_held f = sym (is_sum_by (λ qs. total (map f (volumes_held qs))) (λ p. f p.volume) refl (λ _ _. refl) ps) ∙ ap (λ xs. total (map f xs)) seen
 
-  -- the volume of a position that was found at a place
-  pub volume_found : (k : ℕ) (p : Position) → (k < length ps) × ((q : Position) → p ≡ get_or ps k q) → (k < length vs) × (p.volume ≡ get_or vs k (pos 0))
-  volume_found k p found = (
-    omega (arith, as_many, found.0),
-    ap (λ q. q.volume) (found.1 p) ∙ sym (get_or-map (λ q. q.volume) ps k p (pos 0) found.0) ∙ ap (λ xs. get_or xs k (pos 0)) seen,
+  -- the volume of the position at a place
+  pub volume_found : (k : ℕ) (p : Position) → k < length ps → p ≡ get_or ps k p → (k < length vs) × (p.volume ≡ get_or vs k (pos 0))
+  volume_found k p within is = (
+    omega (arith, as_many, within),
+    ap (λ q. q.volume) is ∙ sym (get_or-map (λ q. q.volume) ps k p (pos 0) within) ∙ ap (λ xs. get_or xs k (pos 0)) seen,
   )
 
   -- within the limits of a position

@@ -1,7 +1,7 @@
 -- The holdings can share the surplus of the minor side, and what is then taken off each margin.
-use Rattle.std.proofs.Common.{◌≡◌, ℕ, zero, suc, ◌+◌, ◌<◌, ◌≤◌, Bool, true, false, cond, ◌&&◌, eqb, ltb, List, ◌++◌, map, length, get_or, take, drop, ℤ, pos, Ok, Err, Result, sym, refl, ap, ◌∙◌, arith}
+use Rattle.std.proofs.Common.{◌≡◌, ℕ, zero, suc, ◌+◌, ◌<◌, ◌≤◌, Bool, true, false, cond, ◌&&◌, eqb, ltb, List, ◌++◌, map, length, get_or, take, drop, set, ℤ, pos, Ok, Err, Result, sym, refl, ap, ◌∙◌, arith}
 use Rattle.std.specs.List.{range_with_len}
-use Rattle.std.proofs.lemmas.List.{length-map, get_or-map, get_or-take, take_at}
+use Rattle.std.proofs.lemmas.List.{length-map, get_or-map, get_or-take, get_or_past, take_at}
 use Rattle.std.proofs.lemmas.Bool.{cond-true, lt-ltb, ne_eqb, or_from}
 use Rattle.std.proofs.lemmas.Bool.Decides.{nat_tests}
 use Rattle.sharing.specs.declared.refusal.Refusal.{Refusal}
@@ -10,16 +10,17 @@ use Rattle.sharing.specs.declared.claims.Claim.{Claim}
 use Rattle.sharing.specs.declared.claims.Mwh.{Mwh}
 use Rattle.sharing.specs.Lists.{total, among, repeated, made}
 use Rattle.sharing.specs.Sharing.{shares, unshareable, shared}
-use Rattle.sharing.proofs.Made.{made_from}
+use Rattle.sharing.proofs.Made.{length_made, get_or-made, made_from}
 use Rattle.sharing.proofs.Shares.{length_shares}
 use Rattle.ledger.specs.Sums.{total_ℤ}
-use Rattle.ledger.specs.SetOff.{margin_before, major_volume, spared, weights, major_share, relief, no_volume}
+use Rattle.ledger.specs.SetOff.{margin_before, minor, major_volume, spared, weights, major_share, relief, no_volume}
+use Rattle.ledger.specs.Margins.{over_lines}
 use Rattle.ledger.proofs.Sums.{map_made}
 use Rattle.ledger.proofs.SetOffs.{relief_le}
 use Rattle.book.specs.declared.state.Position.{Position}
 use Rattle.book.specs.declared.set_off.Margin.{Margin}
-use Rattle.book.specs.SettingOff.{Terms, volumes_held, seat_margin, margin_of, no_margin, holding_of, HoldShares, SharesOut, relief_of, margin_with}
-use Rattle.book.proofs.Filled.{take_made}
+use Rattle.book.specs.SettingOff.{Terms, volumes_held, seat_margin, margin_of, no_margin, holding_with, holding_of, HoldShares, SharesOut, relief_of, margin_with}
+use Rattle.book.proofs.Filled.{take_made, over_next, over_more, over_rest}
 use Rattle.book.proofs.Held.{as_many, spared_within, weight_within}
 
 -- the owner and the weight of a holding
@@ -114,3 +115,34 @@ module _ (t : Terms) (k : ℕ) (within : k < length t.volumes) (hs : List (Claim
     margin_made m e =
         let is : m ≡ margin_of t k = let s = share_told in cc in
         is ∙ sym (cond-true (ltb k (length t.volumes)) (margin_of t k) no_margin (lt-ltb k (length t.volumes) within))
+
+-- what a seat with no member holds
+abbrev pub no_holding : ℕ → Claim Mwh
+no_holding k = record { seat = k + 1; weight = 0; share = 0; unit = record {} }
+
+nothing_held : (t : Terms) (k : ℕ) → length t.volumes ≤ k → no_holding k ≡ holding_of t k
+nothing_held t k high =
+    ap (λ n. record { seat = k + 1; weight = n; share = 0; unit = record {} }) (weightless (minor net (pos 0)))
+    ∙ ap (λ v. holding_with net v k) (sym (get_or_past t.volumes k (pos 0) high))
+  where
+    net : ℤ
+    net = total_ℤ t.volumes
+
+    weightless : (b : Bool) → ◌≡◌ {A = ℕ} 0 (cond b 0 0)
+    weightless true = refl
+    weightless false = refl
+
+-- the weights of the first members, written over those of no member, and one more
+pub weighed_more : (t : Terms) (hs : List (Claim Mwh)) (d : Claim Mwh) (k : ℕ) (v : ℤ) (n : ℕ) → k < 8 → hs ≡ over_lines k (holding_of t) (made 8 no_holding)
+    → v ≡ get_or t.volumes k (pos 0) → n ≡ major_volume (total_ℤ t.volumes) v → set hs k (record (get_or hs k d) { weight = n }) ≡ over_lines (k + 1) (holding_of t) (made 8 no_holding)
+weighed_more t hs d k v n within done read weighed =
+    over_more (holding_of t) (made 8 no_holding) hs k (record (get_or hs k d) { weight = n }) (omega (arith, length_made no_holding 8)) done
+    (ap (λ (x : Claim Mwh). record { seat = x.seat; weight = n; share = x.share; unit = x.unit }) (over_next (holding_of t) (made 8 no_holding) hs k d done ∙ get_or-made no_holding 8 k d within)
+    ∙ ap (λ m. record { seat = k + 1; weight = m; share = 0; unit = record {} }) weighed
+    ∙ ap (λ x. holding_with (total_ℤ t.volumes) x k) read)
+
+-- those of all members
+pub all_weighed : (t : Terms) → length t.volumes ≤ 8 → over_lines (length t.volumes) (holding_of t) (made 8 no_holding) ≡ made 8 (holding_of t)
+all_weighed t few =
+    over_rest (holding_of t) (length t.volumes) 8 (made 8 no_holding) (no_holding 0) few (length_made no_holding 8)
+    (λ k high l. get_or-made no_holding 8 k (no_holding 0) l ∙ nothing_held t k high)

@@ -7,7 +7,7 @@ ghost use Rattle.ledger.specs.Runs.{Turned};
 ghost use Rattle.book.specs.Views.{ledger_of};
 ghost use Rattle.book.specs.SettingOff.{line_of};
 
-use super::set_off::{Margin, lines_of};
+use super::set_off::Margin;
 use super::state::Book;
 use ledger::limits::SEATS;
 use ledger::lines::SetOffLine;
@@ -15,13 +15,14 @@ use sharing::refusal::Refusal;
 
 impl Book {
     // Writes a line for each member of the book, in seat order. Further lines stay as they are.
-    #[tactic(auto, using(crate::proofs::Filled::take_made))]
     fn write_members(&self, margins: &[Margin; SEATS], lines: &mut [SetOffLine])
         requires { self.now.members ≤ length lines.old }
         ensures { lines.new ≡ over_lines self.now.members (line_of margins.now) lines.old }
     {
         let count = self.members.count();
-        lines[..count].copy_from_slice(&lines_of(margins)[..count]);
+        for (place, line) in lines[..count].iter_mut().enumerate() {
+            *line = margins[place].line(place);
+        }
     }
 
     // The net volume in MWh and the net cost in grosze of a seat in the series of a code. Two signed numbers, as the

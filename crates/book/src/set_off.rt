@@ -1,12 +1,12 @@
 // The set-off of one series: the initial margins of the members, before and after.
-ghost use Rattle.std.specs.Prelude.{◌≡◌, ◌+◌, ◌*◌, ◌<◌, ◌≤◌, length, pos, slice_index_or, unsigned_abs};
+ghost use Rattle.std.specs.Prelude.{◌≡◌, ◌+◌, ◌*◌, ◌<◌, ◌≤◌, length, unsigned_abs};
 ghost use Rattle.sharing.specs.Lists.{made};
 ghost use Rattle.ledger.specs.Limits.{most_members};
 ghost use Rattle.ledger.specs.Sums.{total_ℤ};
 ghost use Rattle.ledger.specs.SetOff.{margin_before, minor, major_volume, minor_surplus, spared};
 ghost use Rattle.ledger.specs.Margins.{rate_of};
 ghost use Rattle.book.specs.Views.{row_from};
-ghost use Rattle.book.specs.SettingOff.{most_rate, most_fifth, Terms, terms_of, volumes_held, seat_margin, margins_by, margins_found, holding_of, HoldShares, SharesOut, relief_of, margin_with, line_of};
+ghost use Rattle.book.specs.SettingOff.{most_rate, most_fifth, Terms, terms_of, volumes_held, seat_margin, margins_by, margins_found, holding_of, HoldShares, SharesOut, relief_of, margin_with};
 
 use super::members::Members;
 use super::state::{Position, Series};
@@ -27,7 +27,7 @@ pub(crate) struct Margin {
 
 impl Margin {
     // The line of the member at this place, who has this margin.
-    fn line(&self, place: usize) -> SetOffLine
+    pub(crate) fn line(&self, place: usize) -> SetOffLine
         requires { place < most_members }
         ensures { result ≡ record { seat = place + 1; before = self.now.before; after = self.now.after } }
     {
@@ -115,16 +115,6 @@ impl SetOff<'_> {
         }
     }
 
-    // The major-side volume of the seat at this place: none, if no member sits there.
-    fn major_volume_at(&self, place: usize) -> u64
-        ensures { result ≡ major_volume (total_ℤ self.now.volumes) (slice_index_or self.now.volumes place (pos 0)) }
-    {
-        match self.held.get(place) {
-            Some(position) => self.major_volume_of(position),
-            None => 0,
-        }
-    }
-
     // The surplus of the whole minor side.
     fn surplus(&self) -> u64
         ensures { result ≡ spared self.now.rate self.now.volumes }
@@ -135,12 +125,15 @@ impl SetOff<'_> {
             .sum()
     }
 
-    // What each seat holds on the major side, as its claim to the surplus, with nothing shared to it yet. Memory is
-    // fixed: there is a place for each seat, whatever the number of members.
-    fn holdings(&self) -> [Holding; SEATS]
-        ensures { result ≡ made 8 (holding_of self.now) }
+    // Writes what each seat holds on the major side, as its claim to the surplus, with nothing shared to it yet. Memory is
+    // fixed: there is a place for each seat, whatever the number of members. One with no member holds nothing.
+    fn write_holdings(&self, holdings: &mut [Holding; SEATS])
+        ensures { holdings.new ≡ made 8 (holding_of self.now) }
     {
-        array::from_fn(|place| Holding::new(place as u8 + 1, self.major_volume_at(place)))
+        *holdings = array::from_fn(|place| Holding::new(place as u8 + 1, 0));
+        for (place, position) in self.held.iter().enumerate() {
+            holdings[place].weight = self.major_volume_of(position);
+        }
     }
 
     // The holdings, with the surplus of the minor side shared among the members' by their volumes. It is refused where
@@ -148,7 +141,8 @@ impl SetOff<'_> {
     fn shared_holdings(&self) -> Result<[Holding; SEATS], Refusal>
         ensures { SharesOut self.now result }
     {
-        let mut holdings = self.holdings();
+        let mut holdings = [Holding::new(0, 0); SEATS];
+        self.write_holdings(&mut holdings);
         let members = self.held.len();
         match share_out(&mut holdings[..members], self.surplus()) {
             Ok(()) => Ok(holdings),
@@ -230,11 +224,4 @@ impl Series {
     {
         self.set_off(members).margins()
     }
-}
-
-// The line of each seat, those of seats with no member among them: memory is fixed.
-pub(crate) fn lines_of(margins: &[Margin; SEATS]) -> [SetOffLine; SEATS]
-    ensures { result ≡ made 8 (line_of margins.now) }
-{
-    array::from_fn(|place| margins[place].line(place))
 }
