@@ -141,6 +141,7 @@ impl SetOff<'_> {
     fn shared_holdings(&self) -> Result<[Holding; SEATS], Refusal>
         ensures { SharesOut self.now result }
     {
+        // lent to be written, since an array that a function answers is copied
         let mut holdings = [Holding::new(0, 0); SEATS];
         self.write_holdings(&mut holdings);
         let members = self.held.len();

@@ -1,11 +1,15 @@
 -- What the code counts, tests and makes, as the definitions have it.
 use Rattle.std.proofs.Common.{◌≡◌, ℕ, suc, ◌+◌, ◌<◌, ◌&&◌, cond, eqb, List, [], ◌∷◌, length, get_or, sym, refl, ap, arith}
-use Rattle.std.proofs.lemmas.List.Recursion.{is_sum_by}
-use Rattle.std.specs.List.{sum_by, list_all}
+use Rattle.std.proofs.lemmas.Bool.Decides.{nat_tests}
+use Rattle.std.proofs.lemmas.List.Recursion.{is_count_by, is_sum_by}
+use Rattle.std.specs.List.{count_by, sum_by, list_all}
 use Rattle.sharing.specs.declared.claims.Claim.{Claim}
 use Rattle.sharing.specs.declared.claims.Zloty.{Zloty}
 use Rattle.rules.specs.Proportions.{claims_from}
 use Rattle.rules.specs.Sequences.{times, each_once}
+
+pub times_counted : (seat : ℕ) (seats : List ℕ) → times seat seats ≡ count_by (λ s. eqb s seat) seats
+times_counted seat seats = is_count_by (times seat) (λ s. eqb s seat) refl (λ s ss. grind (arith, nat_tests)) seats
 
 pub times_summed : (seat : ℕ) (seats : List ℕ) → sum_by (λ s. cond (eqb s seat) 1 0) seats ≡ times seat seats
 times_summed seat seats = sym (is_sum_by (times seat) (λ s. cond (eqb s seat) 1 0) refl (λ s ss. refl) seats)

@@ -1,8 +1,7 @@
-use Rattle.std.proofs.Common.{◌≡◌, ◌^◌, ◌≤◌, ◌<◌, cond, eqb, length, ◌∙◌, rules, tests, arith}
+use Rattle.std.proofs.Common.{◌^◌, ◌≤◌, cond, eqb, length, ◌∙◌, rules, tests, arith}
 use Rattle.std.proofs.lemmas.Iterator.{YieldsList-from_map, YieldsList-from_slice}
 use Rattle.std.proofs.lemmas.Iterator.Adapters.{fits_from_length, at_most_from_yields_List}
 use Rattle.std.proofs.lemmas.Iterator.Consumers.{sum_by_from_yields_List, YieldsList-at}
-use Rattle.rules.specs.Sequences.{times}
 use Rattle.rules.proofs.Tests.{times_summed}
 use Rattle.rules.proofs.sequence.times_named.Goals as goal
 
